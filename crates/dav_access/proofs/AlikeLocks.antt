@@ -11,6 +11,7 @@ use Rattle.dav_resource.specs.declared.error.FsError.{FsError}
 use Rattle.dav_resource.specs.declared.meta.Meta.{Meta}
 use Rattle.dav_resource.specs.declared.record.Op.TheVariants as ops
 use Rattle.dav_resource.specs.declared.request.DavRequest.{DavRequest}
+use Rattle.dav_resource.specs.declared.profile.Profile.{Profile}
 use Rattle.dav_store.specs.Logged.{Logged}
 use Rattle.dav_store.specs.Store.{Node, Bodies, Contents, AreNamed, PropertyMap}
 use Rattle.dav_store.specs.Calls.{Call, IsLawful, record_of}
@@ -49,25 +50,25 @@ module _ (sight : Sight) (request : DavRequest) (old new : State) (other : Conte
   stays : {Leads : Contents → Type 0} → new.contents ≡ old.contents → Leads other → Follows sight new.contents Leads
   stays {Leads} same leads = followed (λ after is. subst Leads (sym is) leads) (follows_same alike same)
 
-  follows_new_lock : (found : Option Meta) (answer : Answer) → AreSeen sight records → NewLockWork request found old records answer new → FollowsTo sight new (λ after. NewLockWork request found (with old other) records answer after)
-  follows_new_lock found answer seen work = followed (λ after done. record { info = work.info; asked = work.asked; done = done }) (by work.done)
+  follows_new_lock : (profile : Profile) (found : Option Meta) (answer : Answer) → AreSeen sight records → NewLockWork profile request found old records answer new → FollowsTo sight new (λ after. NewLockWork profile request found (with old other) records answer after)
+  follows_new_lock profile found answer seen work = followed (λ after done. record { info = work.info; asked = work.asked; done = done }) (by work.done)
     where
-      by : GrantsLock request found (lock_asked request found work.info) old records answer new ⊎ DeniesLock (lock_asked request found work.info) old records answer new
-          → FollowsTo sight new (λ after. GrantsLock request found (lock_asked request found work.info) (with old other) records answer after ⊎ DeniesLock (lock_asked request found work.info) (with old other) records answer after)
+      by : GrantsLock profile request found (lock_asked request found work.info) old records answer new ⊎ DeniesLock (lock_asked request found work.info) old records answer new
+          → FollowsTo sight new (λ after. GrantsLock profile request found (lock_asked request found work.info) (with old other) records answer after ⊎ DeniesLock (lock_asked request found work.info) (with old other) records answer after)
       by (inl grants) = followed (λ after answers. inl (record {
         granted = grants.granted;
         answers = answers;
         locks = left_too old new other after (lock_asked request found work.info) answer grants.locks;
-      })) (follows_answers_lock sight request old.contents new.contents other alike found (lock_asked request found work.info) records answer seen grants.answers)
+      })) (follows_answers_lock sight request old.contents new.contents other alike profile found (lock_asked request found work.info) records answer seen grants.answers)
       by (inr denies) = followed (λ after same. inr (record { denied = denies.denied; answered = denies.answered; none = denies.none; same = same })) (follows_stay sight old new other alike denies.same)
 
   follows_new_lock_cut : (found : Option Meta) → NewLockCut request found old records new → FollowsTo sight new (λ after. NewLockCut request found (with old other) records after)
   follows_new_lock_cut found cut = followed (λ after same. record { info = cut.info; asked = cut.asked; none = cut.none; same = same; locks = taken_back old new other after (lock_asked request found cut.info) cut.locks }) (follows_same alike cut.same)
 
-  follows_refresh : (found : Option Meta) (answer : Answer) → RefreshWork request found old records answer new → FollowsTo sight new (λ after. RefreshWork request found (with old other) records answer after)
-  follows_refresh found answer work = followed (λ after same. record { token = work.token; one = work.one; none = work.none; same = same; done = by after work.done }) (follows_same alike work.same)
+  follows_refresh : (profile : Profile) (found : Option Meta) (answer : Answer) → RefreshWork profile request found old records answer new → FollowsTo sight new (λ after. RefreshWork profile request found (with old other) records answer after)
+  follows_refresh profile found answer work = followed (λ after same. record { token = work.token; one = work.one; none = work.none; same = same; done = by after work.done }) (follows_same alike work.same)
     where
-      by : (after : Contents) → RefreshesNamed request found work.token old answer new ⊎ FindsNoLock request work.token old answer new → RefreshesNamed request found work.token (with old other) answer (with new after) ⊎ FindsNoLock request work.token (with old other) answer (with new after)
+      by : (after : Contents) → RefreshesNamed profile request found work.token old answer new ⊎ FindsNoLock request work.token old answer new → RefreshesNamed profile request found work.token (with old other) answer (with new after) ⊎ FindsNoLock request work.token (with old other) answer (with new after)
       by after (inl named) = inl (record { lock = named.lock; is = named.is; answered = named.answered; locks = named.locks })
       by after (inr none) = inr (record { is = none.is; answered = none.answered; locks = none.locks })
 
@@ -79,12 +80,12 @@ module _ (sight : Sight) (request : DavRequest) (old new : State) (other : Conte
       by after (inr alone) = inr alone
 
   module _ (held : Bodies) (found : Option Meta) where
-    pub follows_lock : (answer : Answer) → AreSeen sight records → LockWork held request found old records answer new → FollowsTo sight new (λ after. LockWork held request found (with old other) records answer after)
-    follows_lock answer seen work = by (is_refresh held request.body) work
+    pub follows_lock : (profile : Profile) (answer : Answer) → AreSeen sight records → LockWork profile held request found old records answer new → FollowsTo sight new (λ after. LockWork profile held request found (with old other) records answer after)
+    follows_lock profile answer seen work = by (is_refresh held request.body) work
       where
-        by : (refresh : Bool) → LockWorkBy refresh request found old records answer new → FollowsTo sight new (λ after. LockWorkBy refresh request found (with old other) records answer after)
-        by true work = follows_refresh found answer work
-        by false work = follows_new_lock found answer seen work
+        by : (refresh : Bool) → LockWorkBy profile refresh request found old records answer new → FollowsTo sight new (λ after. LockWorkBy profile refresh request found (with old other) records answer after)
+        by true work = follows_refresh profile found answer work
+        by false work = follows_new_lock profile found answer seen work
 
     pub follows_lock_cut : LockCut held request found old records new → FollowsTo sight new (λ after. LockCut held request found (with old other) records after)
     follows_lock_cut cut = by (is_refresh held request.body) cut

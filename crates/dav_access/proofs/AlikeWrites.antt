@@ -13,6 +13,7 @@ use Rattle.dav_resource.specs.declared.record.Op.TheVariants as ops
 use Rattle.dav_resource.specs.declared.record.Outcome.{Outcome}
 use Rattle.dav_resource.specs.declared.record.Outcome.TheVariants.{Granted, Barred, Refused}
 use Rattle.dav_resource.specs.declared.request.DavRequest.{DavRequest}
+use Rattle.dav_resource.specs.declared.profile.Profile.{Profile}
 use Rattle.dav_store.specs.Logged.{Logged, logged}
 use Rattle.dav_store.specs.Store.{Node, Bodies, Contents}
 use Rattle.dav_store.specs.Calls.{Call, create_dir_call, open_call, bytes_at, written_at}
@@ -348,8 +349,8 @@ module _ (sight : Sight) (request : DavRequest) (old new other : Contents) (alik
       alike_needs sight (open_call old request.path.key (making_options request)) (open_call other request.path.key (making_options request)) (lock_open_error (making_options request)) (Passed tt) (Passed tt)
       (same_open sight old other (looks_alike sight old other alike) request.path.key (making_options request)) (λ _. refl)
 
-  pub follows_answers_lock : (found : Option Meta) (lock : DavLock) (records : List Logged) (answer : Answer) → AreSeen sight records → AnswersLock request found lock old records answer new → Follows sight new (λ after. AnswersLock request found lock other records answer after)
-  follows_answers_lock found lock records answer seen answers = followed (λ after leaves. record {
-    answered = alike_answered sight (file_steps request found old) (file_steps request found other) (λ _ reply. reply ≡ granted_reply request found lock) records answer (alike_file found) seen answers.answered;
+  pub follows_answers_lock : (profile : Profile) (found : Option Meta) (lock : DavLock) (records : List Logged) (answer : Answer) → AreSeen sight records → AnswersLock profile request found lock old records answer new → Follows sight new (λ after. AnswersLock profile request found lock other records answer after)
+  follows_answers_lock profile found lock records answer seen answers = followed (λ after leaves. record {
+    answered = alike_answered sight (file_steps request found old) (file_steps request found other) (λ _ reply. reply ≡ granted_reply profile request found lock) records answer (alike_file found) seen answers.answered;
     leaves = leaves;
   }) (follows_file_leaves records answers.leaves)

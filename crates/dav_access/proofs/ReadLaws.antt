@@ -123,7 +123,7 @@ module _ (sight : Sight) (settings : Settings) (lets : (key : Key) → settings.
         (λ found rest seen work. follows_move_cut sight request found old new other alike rest seen work)
     follows_step (Some Lock) =
         step_by lock_method (alike_lock sight request old other like settings.facts.bodies)
-        (λ found rest seen work. follows_lock sight request old new other alike rest settings.facts.bodies found answer seen work)
+        (λ found rest seen work. follows_lock sight request old new other alike rest settings.facts.bodies found settings.profile answer seen work)
         (λ found rest seen work. follows_lock_cut sight request old new other alike rest settings.facts.bodies found work)
     follows_step (Some Unlock) =
         step_by unlock_method (alike_unlock sight request old other like)

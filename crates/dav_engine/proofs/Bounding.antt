@@ -183,14 +183,14 @@ unrecorded_write partial = unrecorded_at_path (write_method partial) (write_keep
 lock_keeps : Keeps ApartFromPath lock_method
 lock_keeps settings request found old new head records answer lawful passed (inl work) key apart = locked (is_refresh settings.facts.bodies request.body) work
   where
-    locked : (refresh : Bool) → LockWorkBy refresh request found old records answer new → standing new.contents key ≡ standing old.contents key
+    locked : (refresh : Bool) → LockWorkBy settings.profile refresh request found old records answer new → standing new.contents key ≡ standing old.contents key
     locked true work = same_standing key old.contents new.contents work.same
     locked false work = by_end work.done
       where
         asked : DavLock
         asked = lock_asked request found work.info
 
-        by_end : GrantsLock request found asked old records answer new ⊎ DeniesLock asked old records answer new → standing new.contents key ≡ standing old.contents key
+        by_end : GrantsLock settings.profile request found asked old records answer new ⊎ DeniesLock asked old records answer new → standing new.contents key ≡ standing old.contents key
         by_end (inl granted) = lock_stands request key records old.contents new.contents apart granted.answers.leaves
         by_end (inr denied) = same_state key old new denied.same
 lock_keeps settings request found old new head records answer lawful passed (inr cut) key apart = lock_cut (is_refresh settings.facts.bodies request.body) cut.1

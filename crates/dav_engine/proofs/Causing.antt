@@ -15,6 +15,7 @@ use Rattle.dav_resource.specs.declared.record.Op.TheVariants as ops
 use Rattle.dav_resource.specs.declared.record.Outcome.{Outcome}
 use Rattle.dav_resource.specs.declared.record.Outcome.TheVariants as outcomes
 use Rattle.dav_resource.specs.declared.request.DavRequest.{DavRequest}
+use Rattle.dav_resource.specs.declared.profile.Profile.{Profile}
 use Rattle.dav_store.specs.Logged.{Logged, logged}
 use Rattle.dav_store.specs.Members.{IsIn}
 use Rattle.dav_store.specs.Store.{Contents, Bodies}
@@ -366,35 +367,35 @@ module _ (request : DavRequest) (old : State) (head rest : List Logged) (answer 
       needed_ends (Some Lock) request e (open_call old.contents request.path.key (making_options request)) (lock_open_error (making_options request)) (Passed tt) refl (λ cause. refl)
       (λ more led. passed_on e tt more led) rest leads
 
-  granted_caused : (found : Option Meta) (lock : DavLock) → GrantsLock request found lock old rest answer new → LockCaused
-  granted_caused found lock g =
+  granted_caused : (profile : Profile) (found : Option Meta) (lock : DavLock) → GrantsLock profile request found lock old rest answer new → LockCaused
+  granted_caused profile found lock g =
       caused_by_call head rest refl lookups (file_ends found (rw is at g.answers.answered)) (λ none. no_file request found rest old.contents new.contents e (rw is at g.answers.answered) g.answers.leaves)
       (taken_back lock (rw is at g.locks))
 
-  new_lock_caused : (found : Option Meta) → NewLockWork request found old rest answer new → LockCaused
-  new_lock_caused found work = by_done work.done
+  new_lock_caused : (profile : Profile) (found : Option Meta) → NewLockWork profile request found old rest answer new → LockCaused
+  new_lock_caused profile found work = by_done work.done
     where
-      by_done : GrantsLock request found (lock_asked request found work.info) old rest answer new ⊎ DeniesLock (lock_asked request found work.info) old rest answer new → LockCaused
-      by_done (inl g) = granted_caused found _ g
+      by_done : GrantsLock profile request found (lock_asked request found work.info) old rest answer new ⊎ DeniesLock (lock_asked request found work.info) old rest answer new → LockCaused
+      by_done (inl g) = granted_caused profile found _ g
       by_done (inr d) = rejected d.none (ap (λ (s : State). s.contents) d.same) (ap (λ (s : State). s.locks) d.same)
 
-  refresh_caused : (found : Option Meta) → RefreshWork request found old rest answer new → LockCaused
-  refresh_caused found work = by_done work.done
+  refresh_caused : (profile : Profile) (found : Option Meta) → RefreshWork profile request found old rest answer new → LockCaused
+  refresh_caused profile found work = by_done work.done
     where
-      by_done : RefreshesNamed request found work.token old answer new ⊎ FindsNoLock request work.token old answer new → LockCaused
+      by_done : RefreshesNamed profile request found work.token old answer new ⊎ FindsNoLock request work.token old answer new → LockCaused
       by_done (inl r) = no_error _ r.answered is
       by_done (inr n) = rejected work.none work.same n.locks
 
-  lock_work_caused : (refresh : Bool) (found : Option Meta) → LockWorkBy refresh request found old rest answer new → LockCaused
-  lock_work_caused true found work = refresh_caused found work
-  lock_work_caused false found work = new_lock_caused found work
+  lock_work_caused : (profile : Profile) (refresh : Bool) (found : Option Meta) → LockWorkBy profile refresh request found old rest answer new → LockCaused
+  lock_work_caused profile true found work = refresh_caused profile found work
+  lock_work_caused profile false found work = new_lock_caused profile found work
 
 pub causes_lock : Causes (Some Lock) lock_method
 causes_lock settings request old new records answer lawful (Refused h) e is = caused_same (looks_led _ _ records (lock_looks request old settings.facts.bodies) h.head) h.same
 causes_lock settings request old new records answer lawful (CutShort h) e is = caused_memory h.answered is
 causes_lock settings request old new records answer lawful (CutInWork h) e is = caused_memory h.answered is
 causes_lock settings request old new records answer lawful (Done h) e is =
-    rw (h.cut) (lock_work_caused request old h.head h.rest answer new e is (looks_led _ _ h.head (lock_looks request old settings.facts.bodies) h.passed) (is_refresh settings.facts.bodies request.body) h.found h.work)
+    rw (h.cut) (lock_work_caused request old h.head h.rest answer new e is (looks_led _ _ h.head (lock_looks request old settings.facts.bodies) h.passed) settings.profile (is_refresh settings.facts.bodies request.body) h.found h.work)
 
 pub causes_unlock : Causes (Some Unlock) unlock_method
 causes_unlock settings request old new records answer lawful (Refused h) e is = caused_same (looks_led _ _ records (unlock_looks request old) h.head) h.same

@@ -15,6 +15,7 @@ use Rattle.dav_engine.specs.State.{State, LocksStay, DropsLocks, IsCompatible}
 use Rattle.dav_engine.specs.Delete.{LeavesLocks}
 use Rattle.dav_engine.specs.Transferring.{ClearsIf, ClearsInPart, UnlessNamed, Replaces, ReplacesInPart, source_path}
 use Rattle.dav_resource.specs.declared.request.Depth.{Depth}
+use Rattle.dav_resource.specs.declared.profile.Profile.{Profile}
 use Rattle.dav_engine.specs.Copy.{replaced, CopiesSource, CopiesSourceInPart, CopyWork, CopyCut}
 use Rattle.dav_engine.specs.Move.{MovesSource, MovesInPart, MoveWork, MoveCut}
 use Rattle.dav_engine.specs.declared.transfer.Transfer.{Transfer}
@@ -69,11 +70,11 @@ refreshed request token old new is h = changed _ (λ list. compatible_with_refre
 
 -- ---- by the work
 
-module _ (request : DavRequest) (found : Option Meta) (old new : State) (records : List Logged) (answer : Answer) where
-  locked : (refresh : Bool) → LockWorkBy refresh request found old records answer new → IsCompatible old → IsCompatible new
+module _ (profile : Profile) (request : DavRequest) (found : Option Meta) (old new : State) (records : List Logged) (answer : Answer) where
+  locked : (refresh : Bool) → LockWorkBy profile refresh request found old records answer new → IsCompatible old → IsCompatible new
   locked true work h = by_end work.done
     where
-      by_end : RefreshesNamed request found work.token old answer new ⊎ FindsNoLock request work.token old answer new → IsCompatible new
+      by_end : RefreshesNamed profile request found work.token old answer new ⊎ FindsNoLock request work.token old answer new → IsCompatible new
       by_end (inl recorded) = refreshed request work.token old new recorded.locks h
       by_end (inr none) = stay old new none.locks h
   locked false work h = by_end work.done
@@ -81,7 +82,7 @@ module _ (request : DavRequest) (found : Option Meta) (old new : State) (records
       asked : DavLock
       asked = lock_asked request found work.info
 
-      by_end : GrantsLock request found asked old records answer new ⊎ DeniesLock asked old records answer new → IsCompatible new
+      by_end : GrantsLock profile request found asked old records answer new ⊎ DeniesLock asked old records answer new → IsCompatible new
       by_end (inl granted) = left asked answer old new granted.locks h
       by_end (inr denied) = compatible_same old new denied.same h
 
@@ -163,8 +164,8 @@ pub keeps_move : Keeps move_method
 keeps_move settings request found old new records answer = moved request found old new records answer
 
 pub keeps_lock : Keeps lock_method
-keeps_lock settings request found old new records answer (inl work) h = locked request found old new records answer (is_refresh settings.facts.bodies request.body) work h
-keeps_lock settings request found old new records answer (inr cut) h = lock_cut request found old new records answer (is_refresh settings.facts.bodies request.body) cut.1 h
+keeps_lock settings request found old new records answer (inl work) h = locked settings.profile request found old new records answer (is_refresh settings.facts.bodies request.body) work h
+keeps_lock settings request found old new records answer (inr cut) h = lock_cut settings.profile request found old new records answer (is_refresh settings.facts.bodies request.body) cut.1 h
 
 pub keeps_unlock : Keeps unlock_method
 keeps_unlock settings request found old new records answer (inl work) h = by_end work.done

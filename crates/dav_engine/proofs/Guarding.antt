@@ -208,14 +208,14 @@ guards_move settings request found old new head records answer passed done = by_
 pub guards_lock : Guards (Some Lock) lock_method
 guards_lock settings request found old new head records answer passed (inl work) = locked (is_refresh settings.facts.bodies request.body) work
   where
-    locked : (refresh : Bool) → LockWorkBy refresh request found old records answer new → IsGuarded (Some Lock) request old new
+    locked : (refresh : Bool) → LockWorkBy settings.profile refresh request found old records answer new → IsGuarded (Some Lock) request old new
     locked true work = guarded_contents (Some Lock) request old new work.same
     locked false work = by_end work.done
       where
         asked : DavLock
         asked = lock_asked request found work.info
 
-        by_end : GrantsLock request found asked old records answer new ⊎ DeniesLock asked old records answer new → IsGuarded (Some Lock) request old new
+        by_end : GrantsLock settings.profile request found asked old records answer new ⊎ DeniesLock asked old records answer new → IsGuarded (Some Lock) request old new
         by_end (inl granted) = guarded_file request old new records granted.answers.leaves
         by_end (inr denied) = guarded_same (Some Lock) request old new denied.same
 guards_lock settings request found old new head records answer passed (inr cut) = lock_cut (is_refresh settings.facts.bodies request.body) cut.1

@@ -16,6 +16,7 @@ use Rattle.dav_resource.specs.declared.meta.DavFile.{DavFile}
 use Rattle.dav_resource.specs.declared.record.Outcome.TheVariants as outcomes
 use Rattle.dav_resource.specs.declared.request.Body.{Body}
 use Rattle.dav_resource.specs.declared.request.DavRequest.{DavRequest}
+use Rattle.dav_resource.specs.declared.profile.Profile.{Profile}
 use Rattle.dav_headers.specs.LockToken.{lock_token_of}
 use Rattle.dav_store.specs.Store.{Store, Contents, Bodies, Node, File, Directory}
 use Rattle.dav_store.specs.Calls.{Call, Grants, Declines, IsOpened, open_call, open_bar, record_of, bytes_at}
@@ -85,21 +86,21 @@ module _ (lock : DavLock) (old mid : Seen) (h : ChangesLocks (AddsLock lock) old
 
 -- ---- the file, and the reply that tells a new lock
 
-module _ (request : DavRequest) (found : Option Meta) (lock : DavLock) where
+module _ (profile : Profile) (request : DavRequest) (found : Option Meta) (lock : DavLock) where
   abbrev Tells : Store → Answer → Store → Type 0
-  Tells = WorksOnStore (AnswersLock request found lock) Unbegun
+  Tells = WorksOnStore (AnswersLock profile request found lock) Unbegun
 
   -- no memory, and nothing happened
   pub tells_unbegun : (store : Store) (result : Result (Response Body) DavError) → answer_of result ≡ Err Memory → Tells store (answer_of result) store
   tells_unbegun store result is = record { records = []; recorded = sym (append-nil store.log); fixed = refl; done = inr (is, record { none = refl; same = refl }) }
 
 -- something was found, and no file is made
-pub tells_found : (request : DavRequest) (found : Option Meta) (lock : DavLock) (store : Store) (reply : Reply) → is_some found ≡ true → reply ≡ granted_reply request found lock → Tells request found lock store (Ok reply) store
-tells_found request None lock store reply some is = absurd cc
-tells_found request (Some meta) lock store reply some is =
+pub tells_found : (profile : Profile) (request : DavRequest) (found : Option Meta) (lock : DavLock) (store : Store) (reply : Reply) → is_some found ≡ true → reply ≡ granted_reply profile request found lock → Tells profile request found lock store (Ok reply) store
+tells_found profile request None lock store reply some is = absurd cc
+tells_found profile request (Some meta) lock store reply some is =
     record { records = []; recorded = sym (append-nil store.log); fixed = refl; done = inl (record { answered = (tt, refl, is); leaves = inr ((λ g. g), refl) }) }
 
-module _ (request : DavRequest) (lock : DavLock) where
+module _ (profile : Profile) (request : DavRequest) (lock : DavLock) where
   abbrev call : Contents → Call
   call old = open_call old request.path.key (making_options request)
 
@@ -119,8 +120,8 @@ module _ (request : DavRequest) (lock : DavLock) where
           no_directory true e = cc
           no_directory false e = cc
 
-  pub tells_made : (found : Option Meta) (file : DavFile) (old new : Store) (reply : Reply) → is_some found ≡ false → Grants (call old.contents) (IsOpened request.path (making_options request) file) old new → reply ≡ granted_reply request found lock
-      → Tells request found lock old (Ok reply) new
+  pub tells_made : (found : Option Meta) (file : DavFile) (old new : Store) (reply : Reply) → is_some found ≡ false → Grants (call old.contents) (IsOpened request.path (making_options request) file) old new → reply ≡ granted_reply profile request found lock
+      → Tells profile request found lock old (Ok reply) new
   tells_made (Some meta) file old new reply nothing h is = absurd cc
   tells_made None file old new reply nothing h is = record {
     records = record_of (call old.contents) outcomes.Granted ∷ [];
@@ -130,7 +131,7 @@ module _ (request : DavRequest) (lock : DavLock) where
   }
 
   pub tells_not : (found : Option Meta) (e : FsError) (old new : Store) → is_some found ≡ false → ((e ≡ fs_errors.Memory) × (new ≡ old)) ⊎ Declines (call old.contents) e old new
-      → Tells request found lock old (Err (lock_open_error (making_options request) e)) new
+      → Tells profile request found lock old (Err (lock_open_error (making_options request) e)) new
   tells_not (Some meta) e old new nothing h = absurd cc
   tells_not None e old new nothing (inl h) = rw (h.0, h.1) (record { records = []; recorded = sym (append-nil old.log); fixed = refl; done = inr (refl, record { none = refl; same = refl }) })
   tells_not None e old new nothing (inr h) = record {
@@ -145,12 +146,12 @@ module _ (request : DavRequest) (lock : DavLock) where
 
 -- ---- the work of a new lock
 
-module _ (request : DavRequest) (found : Option Meta) (info : LockInfo) (asked : lock_info_of request.body ≡ Some info) where
+module _ (profile : Profile) (request : DavRequest) (found : Option Meta) (info : LockInfo) (asked : lock_info_of request.body ≡ Some info) where
   abbrev lock : DavLock
   lock = lock_asked request found info
 
   abbrev Locks-new : Seen → Answer → Seen → Type 0
-  Locks-new = Performs (NewLockWork request found) (NewLockCut request found)
+  Locks-new = Performs (NewLockWork profile request found) (NewLockCut request found)
 
   -- the lock isn't granted, or there is no memory for it
   pub locks_denied : (e : DavError) (old new : Seen) → ((e ≡ Memory) × (new ≡ old)) ⊎ ((e ≡ Status 423) × KeepsLocks (λ (l : Locks). grants l.list lock ≡ false) old new) → Locks-new old (Err e) new
@@ -173,10 +174,10 @@ module _ (request : DavRequest) (found : Option Meta) (info : LockInfo) (asked :
 
   module _ (old mid far : Seen) (added : ChangesLocks (AddsLock lock) old mid) (same : far.locks ≡ mid.locks) where
     -- it is reported
-    pub locks_told : (reply : Reply) → Tells request found lock mid.store (Ok reply) far.store → Locks-new old (Ok reply) far
+    pub locks_told : (reply : Reply) → Tells profile request found lock mid.store (Ok reply) far.store → Locks-new old (Ok reply) far
     locks_told reply h = by_end h.done
       where
-        by_end : AnswersLock request found lock mid.store.contents h.records (Ok reply) far.store.contents ⊎ (◌≡◌ {A = Answer} (Ok reply) (Err Memory) × Unbegun mid.store.contents h.records far.store.contents) → Locks-new old (Ok reply) far
+        by_end : AnswersLock profile request found lock mid.store.contents h.records (Ok reply) far.store.contents ⊎ (◌≡◌ {A = Answer} (Ok reply) (Err Memory) × Unbegun mid.store.contents h.records far.store.contents) → Locks-new old (Ok reply) far
         by_end (inr cut) = absurd (let no : ◌≡◌ {A = Answer} (Ok reply) (Err Memory) = cut.0 in cc)
         by_end (inl tells) = record {
           records = h.records;
@@ -187,7 +188,7 @@ module _ (request : DavRequest) (found : Option Meta) (info : LockInfo) (asked :
             asked = asked;
             done = inl (record {
               granted = (adds lock old mid added).granted;
-              answers = subst (λ (s : Store). AnswersLock request found lock s.contents h.records (Ok reply) far.store.contents) added.store tells;
+              answers = subst (λ (s : Store). AnswersLock profile request found lock s.contents h.records (Ok reply) far.store.contents) added.store tells;
               locks = record { granted = (adds lock old mid added).granted; added = ap (option_map (λ (l : Locks). l.list)) same ∙ (adds lock old mid added).added };
             });
           });
@@ -197,7 +198,7 @@ module _ (request : DavRequest) (found : Option Meta) (info : LockInfo) (asked :
             told_facts = (λ i. (h.fixed i, option_map (λ (l : Locks). l.reliable) (same i))) ∙ added_facts lock old mid added
 
     -- it isn't, and is taken back
-    pub locks_untold : (e : DavError) (new : Seen) → Tells request found lock mid.store (Err e) far.store → (new.store ≡ far.store) → TakesBack lock (state_of old) (state_of new) → facts_of new ≡ facts_of (record far { locks = old.locks }) → Locks-new old (Err e) new
+    pub locks_untold : (e : DavError) (new : Seen) → Tells profile request found lock mid.store (Err e) far.store → (new.store ≡ far.store) → TakesBack lock (state_of old) (state_of new) → facts_of new ≡ facts_of (record far { locks = old.locks }) → Locks-new old (Err e) new
     locks_untold e new h store taken facts = record {
       records = h.records;
       recorded = ap (λ (s : Store). s.log) store ∙ h.recorded ∙ ap (λ (s : Store). s.log ++ h.records) added.store;
@@ -206,15 +207,15 @@ module _ (request : DavRequest) (found : Option Meta) (info : LockInfo) (asked :
     }
       where
         Ended : Type 0
-        Ended = NewLockWork request found (state_of old) h.records (Err e) (state_of new) ⊎ (◌≡◌ {A = Answer} (Err e) (Err Memory) × NewLockCut request found (state_of old) h.records (state_of new))
+        Ended = NewLockWork profile request found (state_of old) h.records (Err e) (state_of new) ⊎ (◌≡◌ {A = Answer} (Err e) (Err Memory) × NewLockCut request found (state_of old) h.records (state_of new))
 
-        by_end : AnswersLock request found lock mid.store.contents h.records (Err e) far.store.contents ⊎ (◌≡◌ {A = Answer} (Err e) (Err Memory) × Unbegun mid.store.contents h.records far.store.contents) → Ended
+        by_end : AnswersLock profile request found lock mid.store.contents h.records (Err e) far.store.contents ⊎ (◌≡◌ {A = Answer} (Err e) (Err Memory) × Unbegun mid.store.contents h.records far.store.contents) → Ended
         by_end (inl tells) = inl (record {
           info = info;
           asked = asked;
           done = inl (record {
             granted = (adds lock old mid added).granted;
-            answers = subst (λ (s : Store). AnswersLock request found lock old.store.contents h.records (Err e) s.contents) (sym store) (subst (λ (s : Store). AnswersLock request found lock s.contents h.records (Err e) far.store.contents) added.store tells);
+            answers = subst (λ (s : Store). AnswersLock profile request found lock old.store.contents h.records (Err e) s.contents) (sym store) (subst (λ (s : Store). AnswersLock profile request found lock s.contents h.records (Err e) far.store.contents) added.store tells);
             locks = taken;
           });
         })
@@ -230,7 +231,7 @@ module _ (request : DavRequest) (found : Option Meta) (info : LockInfo) (asked :
         )
 
     -- the lock system is asked to remove it
-    pub locks_removed : (e : DavError) (new : Seen) (removed : Bool) → Tells request found lock mid.store (Err e) far.store → (removed ≡ true → ChangesLocks (RemovesLock lock.path.key lock.token) far new) → (removed ≡ false → KeepsLocks (KeepsNamed lock.path.key lock.token) far new)
+    pub locks_removed : (e : DavError) (new : Seen) (removed : Bool) → Tells profile request found lock mid.store (Err e) far.store → (removed ≡ true → ChangesLocks (RemovesLock lock.path.key lock.token) far new) → (removed ≡ false → KeepsLocks (KeepsNamed lock.path.key lock.token) far new)
         → Locks-new old (Err e) new
     locks_removed e new true h gone kept =
         let g = went lock old mid added far new same (gone refl) in
@@ -242,9 +243,9 @@ module _ (request : DavRequest) (found : Option Meta) (info : LockInfo) (asked :
 
 -- ---- the work of a refresh
 
-module _ (request : DavRequest) (found : Option Meta) (token : List ℕ) (one : submitted_tokens request ≡ token ∷ []) where
+module _ (profile : Profile) (request : DavRequest) (found : Option Meta) (token : List ℕ) (one : submitted_tokens request ≡ token ∷ []) where
   abbrev Refreshes : Seen → Answer → Seen → Type 0
-  Refreshes = Performs (RefreshWork request found) (RefreshCut request)
+  Refreshes = Performs (RefreshWork profile request found) (RefreshCut request)
 
   none_found : (locks : List DavLock) → has_named request.path.key token locks ≡ false → find (is_named request.path.key token) locks ≡ None
   none_found [] h = refl
@@ -275,7 +276,7 @@ module _ (request : DavRequest) (found : Option Meta) (token : List ℕ) (one : 
 
   -- it is refreshed, and reported where there is memory
   pub refreshes : (lock : DavLock) (old new : Seen) (result : Result (Response Body) DavError) → ChangesLocks (RefreshesLock request.path.key token (refresh_timeout request) request.now lock) old new
-      → IfOk result (λ reply. reply_of reply ≡ refreshed_reply request.path found lock) → IfErr result (λ e. e ≡ Memory) → Refreshes old (answer_of result) new
+      → IfOk result (λ reply. reply_of reply ≡ refreshed_reply profile request.path found lock) → IfErr result (λ e. e ≡ Memory) → Refreshes old (answer_of result) new
   refreshes lock old new (Ok reply) h is _ = record {
     records = [];
     recorded = ap (λ (s : Store). s.log) h.store ∙ sym (append-nil old.store.log);
@@ -337,15 +338,15 @@ module _ (held : Bodies) (request : DavRequest) (is : is_refresh held request.bo
   pub judges_new : {old new : Store} {verdict : Result (Option Meta) DavError} (state : State) → Judges (new_lock_rules request state) old verdict new → Judges (lock_rules held request state) old verdict new
   judges_new {old = old} {new} {verdict} state h = subst (λ b. Judges (if b then refresh_rules request state else new_lock_rules request state) old verdict new) (sym is) h
 
-  pub works_new : (found : Option Meta) (old new : Seen) (answer : Answer) → Performs (NewLockWork request found) (NewLockCut request found) old answer new → Performs (LockWork held request found) (LockCut held request found) old answer new
-  works_new found old new answer h = subst (λ b. Performs (LockWorkBy b request found) (LockCutBy b request found) old answer new) (sym is) h
+  pub works_new : (profile : Profile) (found : Option Meta) (old new : Seen) (answer : Answer) → Performs (NewLockWork profile request found) (NewLockCut request found) old answer new → Performs (LockWork profile held request found) (LockCut held request found) old answer new
+  works_new profile found old new answer h = subst (λ b. Performs (LockWorkBy profile b request found) (LockCutBy b request found) old answer new) (sym is) h
 
 module _ (held : Bodies) (request : DavRequest) (is : is_refresh held request.body ≡ true) where
   pub judges_refresh : {old new : Store} {verdict : Result (Option Meta) DavError} (state : State) → Judges (refresh_rules request state) old verdict new → Judges (lock_rules held request state) old verdict new
   judges_refresh {old = old} {new} {verdict} state h = subst (λ b. Judges (if b then refresh_rules request state else new_lock_rules request state) old verdict new) (sym is) h
 
-  pub works_refresh : (found : Option Meta) (old new : Seen) (answer : Answer) → Performs (RefreshWork request found) (RefreshCut request) old answer new → Performs (LockWork held request found) (LockCut held request found) old answer new
-  works_refresh found old new answer h = subst (λ b. Performs (LockWorkBy b request found) (LockCutBy b request found) old answer new) (sym is) h
+  pub works_refresh : (profile : Profile) (found : Option Meta) (old new : Seen) (answer : Answer) → Performs (RefreshWork profile request found) (RefreshCut request) old answer new → Performs (LockWork profile held request found) (LockCut held request found) old answer new
+  works_refresh profile found old new answer h = subst (λ b. Performs (LockWorkBy profile b request found) (LockCutBy b request found) old answer new) (sym is) h
 
 -- ---- the token of an UNLOCK
 

@@ -418,10 +418,10 @@ module _ (settings : Settings) (request : DavRequest) (old new : State) where
       untimed_alike lock true = refl
       untimed_alike lock false = refl
 
-  locks_by_work : (found : Option Meta) (records : List Logged) (answer : Answer) (refresh : Bool) → is_refresh settings.facts.bodies request.body ≡ refresh → LockWorkBy refresh request found old records answer new → Law
+  locks_by_work : (found : Option Meta) (records : List Logged) (answer : Answer) (refresh : Bool) → is_refresh settings.facts.bodies request.body ≡ refresh → LockWorkBy settings.profile refresh request found old records answer new → Law
   locks_by_work found records answer true is work = by_end work.done
     where
-      by_end : RefreshesNamed request found work.token old answer new ⊎ FindsNoLock request work.token old answer new → Law
+      by_end : RefreshesNamed settings.profile request found work.token old answer new ⊎ FindsNoLock request work.token old answer new → Law
       by_end (inl recorded) = locks_refreshed work.token is work.one recorded.locks
       by_end (inr none) = other_locks_stay (Some Lock) settings request old new none.locks
   locks_by_work found records answer false is work = by_end work.done
@@ -429,7 +429,7 @@ module _ (settings : Settings) (request : DavRequest) (old new : State) where
       asked : DavLock
       asked = lock_asked request found work.info
 
-      by_end : GrantsLock request found asked old records answer new ⊎ DeniesLock asked old records answer new → Law
+      by_end : GrantsLock settings.profile request found asked old records answer new ⊎ DeniesLock asked old records answer new → Law
       by_end (inl granted) = locks_left asked answer granted.locks
       by_end (inr denied) = other_locks_same (Some Lock) settings request old new denied.same
 

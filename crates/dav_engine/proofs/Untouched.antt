@@ -142,11 +142,11 @@ untouched_lock = step_untouched lock_method leaves
     leaves : LeavesUntouched lock_method
     leaves settings request found old new records answer done none = by_end (is_refresh settings.facts.bodies request.body) done
       where
-        asks : (asked : DavLock) → GrantsLock request found asked old records answer new ⊎ DeniesLock asked old records answer new → new.contents ≡ old.contents
+        asks : (asked : DavLock) → GrantsLock settings.profile request found asked old records answer new ⊎ DeniesLock asked old records answer new → new.contents ≡ old.contents
         asks asked (inl granted) = file_untouched request records old.contents new.contents none granted.answers.leaves
         asks asked (inr denied) = same_contents old new denied.same
 
-        by_end : (refresh : Bool) → LockWorkBy refresh request found old records answer new ⊎ ((answer ≡ Err Memory) × LockCutBy refresh request found old records new) → new.contents ≡ old.contents
+        by_end : (refresh : Bool) → LockWorkBy settings.profile refresh request found old records answer new ⊎ ((answer ≡ Err Memory) × LockCutBy refresh request found old records new) → new.contents ≡ old.contents
         by_end true (inl work) = work.same
         by_end true (inr cut) = cut.1.same
         by_end false (inl work) = asks (lock_asked request found work.info) work.done

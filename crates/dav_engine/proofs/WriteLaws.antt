@@ -13,6 +13,7 @@ use Rattle.dav_resource.specs.declared.record.Op.TheVariants.{OpenFile, WriteByt
 use Rattle.dav_resource.specs.declared.record.Outcome.{Outcome}
 use Rattle.dav_resource.specs.declared.record.Outcome.TheVariants as outcomes
 use Rattle.dav_resource.specs.declared.request.DavRequest.{DavRequest}
+use Rattle.dav_resource.specs.declared.profile.Profile.{Profile}
 use Rattle.dav_headers.specs.IfHeader.{if_of}
 use Rattle.dav_store.specs.Calls.{Call, open_call}
 use Rattle.dav_store.specs.LockCalls.{is_named, refreshed, with_refreshed}
@@ -146,9 +147,9 @@ no_file request None (r ∷ records) old new e h (inl made) =
     absurd (not_granted OpenFile request.path.key r (rw by.1 at made.0) by.0)
 
 -- a lock is reported by 200 or 201
-granted_told : (request : DavRequest) (found : Option Meta) (lock : DavLock) → is_lock_granted (Ok (granted_reply request found lock)) ≡ true
-granted_told request (Some meta) lock = refl
-granted_told request None lock = refl
+granted_told : (profile : Profile) (request : DavRequest) (found : Option Meta) (lock : DavLock) → is_lock_granted (Ok (granted_reply profile request found lock)) ≡ true
+granted_told profile request (Some meta) lock = refl
+granted_told profile request None lock = refl
 
 untold : {A : Type 0} (answer : Answer) (reply : Reply) → answer ≡ Ok reply → is_lock_granted (Ok reply) ≡ true → is_lock_granted answer ≡ false → A
 untold answer reply is recorded otherwise = absurd (let e : true ≡ false = sym recorded ∙ ap is_lock_granted (sym is) ∙ otherwise in cc)
@@ -178,23 +179,23 @@ module _ (settings : Settings) (request : DavRequest) (old new : State) where
   gone lock (inl same) reliable = same
   gone lock (inr kept) reliable = absurd (let no : true ≡ false = sym reliable ∙ kept.0 in cc)
 
-  ungranted_new : (found : Option Meta) (lock : DavLock) (records : List Logged) (answer : Answer) → GrantsLock request found lock old records answer new → MakesNothingUnlessLocked settings request answer old new
-  ungranted_new found lock records (Ok reply) h otherwise = untold (Ok reply) (granted_reply request found lock) (ap Ok h.answers.answered.2) (granted_told request found lock) otherwise
+  ungranted_new : (found : Option Meta) (lock : DavLock) (records : List Logged) (answer : Answer) → GrantsLock settings.profile request found lock old records answer new → MakesNothingUnlessLocked settings request answer old new
+  ungranted_new found lock records (Ok reply) h otherwise = untold (Ok reply) (granted_reply settings.profile request found lock) (ap Ok h.answers.answered.2) (granted_told settings.profile request found lock) otherwise
   ungranted_new found lock records (Err e) h otherwise = record { contents = no_file request found records old.contents new.contents e h.answers.answered h.answers.leaves; locks = λ reliable. inl (gone lock h.locks reliable) }
 
-  ungranted_work : (found : Option Meta) (records : List Logged) (answer : Answer) (refresh : Bool) → LockWorkBy refresh request found old records answer new → MakesNothingUnlessLocked settings request answer old new
+  ungranted_work : (found : Option Meta) (records : List Logged) (answer : Answer) (refresh : Bool) → LockWorkBy settings.profile refresh request found old records answer new → MakesNothingUnlessLocked settings request answer old new
   ungranted_work found records answer false work otherwise = by_end work.done
     where
       asked : DavLock
       asked = lock_asked request found work.info
 
-      by_end : GrantsLock request found asked old records answer new ⊎ DeniesLock asked old records answer new → MakesNothing settings request answer old new
+      by_end : GrantsLock settings.profile request found asked old records answer new ⊎ DeniesLock asked old records answer new → MakesNothing settings request answer old new
       by_end (inl granted) = ungranted_new found asked records answer granted otherwise
       by_end (inr denied) = nothing_same answer denied.same
   ungranted_work found records answer true work otherwise = by_end work.done
     where
-      by_end : RefreshesNamed request found work.token old answer new ⊎ FindsNoLock request work.token old answer new → MakesNothing settings request answer old new
-      by_end (inl recorded) = untold answer (refreshed_reply request.path found recorded.lock) recorded.answered refl otherwise
+      by_end : RefreshesNamed settings.profile request found work.token old answer new ⊎ FindsNoLock request work.token old answer new → MakesNothing settings request answer old new
+      by_end (inl recorded) = untold answer (refreshed_reply settings.profile request.path found recorded.lock) recorded.answered refl otherwise
       by_end (inr none) = record { contents = work.same; locks = λ _. inl none.locks }
 
   ungranted_cut : (found : Option Meta) (records : List Logged) (answer : Answer) → answer ≡ Err Memory → (refresh : Bool) → is_refresh settings.facts.bodies request.body ≡ refresh → LockCutBy refresh request found old records new → MakesNothing settings request answer old new
@@ -257,7 +258,7 @@ error_untold : (answer : Answer) (e : DavError) → answer ≡ Err e → is_lock
 error_untold answer e is recorded = let no : false ≡ true = sym (ap is_lock_granted is) ∙ recorded in cc
 
 module _ (settings : Settings) (request : DavRequest) (old new : State) (records : List Logged) (answer : Answer) (recorded : is_lock_granted answer ≡ true) (made : is_refresh settings.facts.bodies request.body ≡ false) where
-  locked_work : (found : Option Meta) (rest : List Logged) → ForSome found (λ meta. old.contents.metas request.path.key ≡ Some meta) → NewLockWork request found old rest answer new → IsLocked request old new
+  locked_work : (found : Option Meta) (rest : List Logged) → ForSome found (λ meta. old.contents.metas request.path.key ≡ Some meta) → NewLockWork settings.profile request found old rest answer new → IsLocked request old new
   locked_work found rest known work = by_end work.done
     where
       asked : DavLock
@@ -267,7 +268,7 @@ module _ (settings : Settings) (request : DavRequest) (old new : State) (records
       by_answer (Ok reply) is added = record { found = found; known = known; info = work.info; asked = work.asked; added = added }
       by_answer (Err e) is taken = absurd (error_untold answer e is recorded)
 
-      by_end : GrantsLock request found asked old rest answer new ⊎ DeniesLock asked old rest answer new → IsLocked request old new
+      by_end : GrantsLock settings.profile request found asked old rest answer new ⊎ DeniesLock asked old rest answer new → IsLocked request old new
       by_end (inl granted) = by_answer answer refl granted.locks
       by_end (inr denied) = absurd (error_untold answer (Status 423) denied.answered recorded)
 
@@ -278,23 +279,23 @@ module _ (settings : Settings) (request : DavRequest) (old new : State) (records
       absurd (error_untold answer refused.0 refused.1 recorded)
   locked_step (Done h) =
       let passed = subst (λ b. LeadsTo (if b then refresh_rules request old else new_lock_rules request old) h.head (Passed h.found)) made h.passed in
-      locked_work h.found h.rest (new_lock_known request old h.head h.found passed) (subst (λ b. LockWorkBy b request h.found old h.rest answer new) made h.work)
+      locked_work h.found h.rest (new_lock_known request old h.head h.found passed) (subst (λ b. LockWorkBy settings.profile b request h.found old h.rest answer new) made h.work)
   locked_step (CutShort h) = absurd (error_untold answer Memory h.answered recorded)
   locked_step (CutInWork h) = absurd (error_untold answer Memory h.answered recorded)
 
 -- ---- a refresh that is granted changes timeouts alone
 
 module _ (settings : Settings) (request : DavRequest) (old new : State) (records : List Logged) (answer : Answer) (recorded : is_lock_granted answer ≡ true) (refresh : is_refresh settings.facts.bodies request.body ≡ true) where
-  refreshed_work : (found : Option Meta) (rest : List Logged) → RefreshWork request found old rest answer new → untimed_locks new ≡ untimed_locks old
+  refreshed_work : (found : Option Meta) (rest : List Logged) → RefreshWork settings.profile request found old rest answer new → untimed_locks new ≡ untimed_locks old
   refreshed_work found rest work = by_end work.done
     where
-      by_end : RefreshesNamed request found work.token old answer new ⊎ FindsNoLock request work.token old answer new → untimed_locks new ≡ untimed_locks old
+      by_end : RefreshesNamed settings.profile request found work.token old answer new ⊎ FindsNoLock request work.token old answer new → untimed_locks new ≡ untimed_locks old
       by_end (inl refreshes) = refreshed_alone request work.token old new refreshes.locks
       by_end (inr none) = absurd (error_untold answer (Status 412) none.answered recorded)
 
   refreshed_step : StepBy lock_method settings request old records answer new → untimed_locks new ≡ untimed_locks old
   refreshed_step (Refused h) = ap untimed_locks h.same
-  refreshed_step (Done h) = refreshed_work h.found h.rest (subst (λ b. LockWorkBy b request h.found old h.rest answer new) refresh h.work)
+  refreshed_step (Done h) = refreshed_work h.found h.rest (subst (λ b. LockWorkBy settings.profile b request h.found old h.rest answer new) refresh h.work)
   refreshed_step (CutShort h) = absurd (error_untold answer Memory h.answered recorded)
   refreshed_step (CutInWork h) = absurd (error_untold answer Memory h.answered recorded)
 

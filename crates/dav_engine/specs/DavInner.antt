@@ -2,6 +2,7 @@
 use Rattle.std.specs.Prelude.{ℕ, Bool, List, Option, is_some, option_map, string_bytes}
 use Rattle.std.specs.Borrow.{GName}
 use Rattle.dav_resource.specs.declared.method.DavMethodSet.{DavMethodSet}
+use Rattle.dav_resource.specs.declared.profile.Profile.{Profile}
 use Rattle.dav_store.specs.Store.{Store, Bodies}
 use Rattle.dav_store.specs.Locks.{Locks}
 use Rattle.dav_engine.specs.Settings.{Settings}
@@ -25,12 +26,12 @@ module _ {C F L : Type 0} where
   abbrev pub loans : DavInner C F L → GName × Option GName
   loans engine = (engine.fs.ghost_name, option_map (λ ls. ls.ghost_name) engine.ls)
 
-  -- the prefix of its paths, the enabled methods, and the credentials of the caller for the store
-  abbrev pub made_with : DavInner C F L → List ℕ × Option DavMethodSet × C
-  made_with engine = (string_bytes engine.prefix, engine.allow, engine.credentials)
+  -- the prefix of its paths, the enabled methods, the credentials of the caller for the store, and the profile
+  abbrev pub made_with : DavInner C F L → List ℕ × Option DavMethodSet × C × Profile
+  made_with engine = (string_bytes engine.prefix, engine.allow, engine.credentials, engine.profile)
 
   -- what no call changes of the engine itself: which borrows it has, and what it was created with
-  abbrev pub fixed_parts : DavInner C F L → (GName × Option GName) × (List ℕ × Option DavMethodSet × C)
+  abbrev pub fixed_parts : DavInner C F L → (GName × Option GName) × (List ℕ × Option DavMethodSet × C × Profile)
   fixed_parts engine = (loans engine, made_with engine)
 
   -- the store and the lock system, as contracts see them
@@ -43,7 +44,8 @@ module _ {C F L : Type 0} where
 
   -- the settings, which no request changes
   abbrev pub settings_by : (F → Store) → DavInner C F L → Settings
-  settings_by see_store engine = record { prefix = string_bytes engine.prefix; allow = engine.allow; facts = (see_store (lent engine)).facts }
+  settings_by see_store engine =
+      record { prefix = string_bytes engine.prefix; allow = engine.allow; profile = engine.profile; facts = (see_store (lent engine)).facts }
 
   -- the bodies that the store holds
   abbrev pub bodies_by : (F → Store) → DavInner C F L → Bodies

@@ -12,6 +12,7 @@ use Rattle.dav_resource.specs.declared.error.DavError.{DavError}
 use Rattle.dav_resource.specs.declared.error.DavError.TheVariants.{Status}
 use Rattle.dav_resource.specs.declared.error.DavError.TheVariants as dav_errors
 use Rattle.dav_resource.specs.declared.request.ReqBody.{ReqBody}
+use Rattle.dav_resource.specs.declared.profile.Profile.{Profile}
 use Rattle.dav_resource.specs.declared.request.DavRequest.{DavRequest}
 use Rattle.dav_headers.specs.Timeout.{timeout_of}
 use Rattle.dav_headers.specs.declared.timeout.DavTimeout.{DavTimeout}
@@ -144,8 +145,8 @@ FileLeaves request records old new =
     (WasGranted OpenFile request.path.key records × HasFile request.path.key old new) ⊎ (¬ (WasGranted OpenFile request.path.key records) × (new ≡ old))
 
 -- the file is opened if nothing was found; the result is a response that reports the lock, or that call's error; the contents are as in `FileLeaves`
-pub record AnswersLock (request : DavRequest) (found : Option Meta) (lock : DavLock) (old : Contents) (records : List Logged) (answer : Answer) (new : Contents) : Type 0 where
-  pub answered : IsAnswered (file_steps request found old) (λ _ reply. reply ≡ granted_reply request found lock) records answer
+pub record AnswersLock (profile : Profile) (request : DavRequest) (found : Option Meta) (lock : DavLock) (old : Contents) (records : List Logged) (answer : Answer) (new : Contents) : Type 0 where
+  pub answered : IsAnswered (file_steps request found old) (λ _ reply. reply ≡ granted_reply profile request found lock) records answer
   pub leaves : FileLeaves request records old new
 
 -- the locks do not grant it: 423, no call is made, and nothing changes
@@ -156,15 +157,15 @@ pub record DeniesLock (lock : DavLock) (old : State) (records : List Logged) (an
   pub same : new ≡ old
 
 -- the locks grant it, the file is opened if nothing was found (`AnswersLock`), and the lock is kept or removed again by the result (`LeavesLock`)
-pub record GrantsLock (request : DavRequest) (found : Option Meta) (lock : DavLock) (old : State) (records : List Logged) (answer : Answer) (new : State) : Type 0 where
+pub record GrantsLock (profile : Profile) (request : DavRequest) (found : Option Meta) (lock : DavLock) (old : State) (records : List Logged) (answer : Answer) (new : State) : Type 0 where
   pub granted : is_granted old lock ≡ true
-  pub answers : AnswersLock request found lock old.contents records answer new.contents
+  pub answers : AnswersLock profile request found lock old.contents records answer new.contents
   pub locks : LeavesLock lock answer old new
 
-pub record NewLockWork (request : DavRequest) (found : Option Meta) (old : State) (records : List Logged) (answer : Answer) (new : State) : Type 0 where
+pub record NewLockWork (profile : Profile) (request : DavRequest) (found : Option Meta) (old : State) (records : List Logged) (answer : Answer) (new : State) : Type 0 where
   pub info : LockInfo
   pub asked : lock_info_of request.body ≡ Some info
-  pub done : GrantsLock request found (lock_asked request found info) old records answer new ⊎ DeniesLock (lock_asked request found info) old records answer new
+  pub done : GrantsLock profile request found (lock_asked request found info) old records answer new ⊎ DeniesLock (lock_asked request found info) old records answer new
 
 -- memory ran out: no call was made, the contents are unchanged, and so are the locks, except that a lock system whose `unlock` is not reliable may
 -- keep the lock
@@ -199,10 +200,10 @@ abbrev pub RefreshesAlone : DavRequest → List ℕ → State → State → Type
 RefreshesAlone request token old new = new.locks ≡ option_map (with_refreshed request.path.key token (refresh_timeout request) request.now) old.locks
 
 -- there is such a lock: it is refreshed, and the response reports it
-pub record RefreshesNamed (request : DavRequest) (found : Option Meta) (token : List ℕ) (old : State) (answer : Answer) (new : State) : Type 0 where
+pub record RefreshesNamed (profile : Profile) (request : DavRequest) (found : Option Meta) (token : List ℕ) (old : State) (answer : Answer) (new : State) : Type 0 where
   pub lock : DavLock
   pub is : lock_refreshed request token old ≡ Some lock
-  pub answered : answer ≡ Ok (refreshed_reply request.path found lock)
+  pub answered : answer ≡ Ok (refreshed_reply profile request.path found lock)
   pub locks : RefreshesAlone request token old new
 
 -- there is none: 412, and the locks are unchanged
@@ -211,12 +212,12 @@ pub record FindsNoLock (request : DavRequest) (token : List ℕ) (old : State) (
   pub answered : answer ≡ Err (Status 412)
   pub locks : LocksStay old new
 
-pub record RefreshWork (request : DavRequest) (found : Option Meta) (old : State) (records : List Logged) (answer : Answer) (new : State) : Type 0 where
+pub record RefreshWork (profile : Profile) (request : DavRequest) (found : Option Meta) (old : State) (records : List Logged) (answer : Answer) (new : State) : Type 0 where
   pub token : List ℕ
   pub one : submitted_tokens request ≡ token ∷ []
   pub none : records ≡ []
   pub same : new.contents ≡ old.contents
-  pub done : RefreshesNamed request found token old answer new ⊎ FindsNoLock request token old answer new
+  pub done : RefreshesNamed profile request found token old answer new ⊎ FindsNoLock request token old answer new
 
 -- memory ran out before or after the refresh: no call was made, the contents are unchanged, and the locks are unchanged or refreshed
 pub record RefreshCut (request : DavRequest) (old : State) (records : List Logged) (new : State) : Type 0 where
@@ -228,12 +229,12 @@ pub record RefreshCut (request : DavRequest) (old : State) (records : List Logge
 
 -- ---- both
 
-abbrev pub LockWorkBy : Bool → DavRequest → Option Meta → State → List Logged → Answer → State → Type 0
-LockWorkBy true request found old records answer new = RefreshWork request found old records answer new
-LockWorkBy false request found old records answer new = NewLockWork request found old records answer new
+abbrev pub LockWorkBy : Profile → Bool → DavRequest → Option Meta → State → List Logged → Answer → State → Type 0
+LockWorkBy profile true request found old records answer new = RefreshWork profile request found old records answer new
+LockWorkBy profile false request found old records answer new = NewLockWork profile request found old records answer new
 
-abbrev pub LockWork : Bodies → DavRequest → Option Meta → State → List Logged → Answer → State → Type 0
-LockWork held request = LockWorkBy (is_refresh held request.body) request
+abbrev pub LockWork : Profile → Bodies → DavRequest → Option Meta → State → List Logged → Answer → State → Type 0
+LockWork profile held request = LockWorkBy profile (is_refresh held request.body) request
 
 abbrev pub LockCutBy : Bool → DavRequest → Option Meta → State → List Logged → State → Type 0
 LockCutBy true request found old records new = RefreshCut request old records new

@@ -59,7 +59,7 @@ lock_method =
     record {
       Found = Option Meta;
       rules = λ settings. lock_rules settings.facts.bodies;
-      Work = λ settings. LockWork settings.facts.bodies;
+      Work = λ settings. LockWork settings.profile settings.facts.bodies;
       Cut = λ settings. LockCut settings.facts.bodies;
     }
 

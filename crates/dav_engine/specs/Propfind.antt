@@ -82,7 +82,7 @@ propfind_rules held request state = if is_too_deep request then Refuses (Ok fini
 -- ---- the work
 
 -- how properties are read: the kind of the search, whether the store supports dead properties, which members a listing may show, the locks, the
--- principal and the user agent
+-- principal, the user agent and the profile
 abbrev pub view_in : Settings → DavRequest → State → FindKind → View
 view_in settings request state kind =
     record {
@@ -92,6 +92,7 @@ view_in settings request state kind =
       locks = state.locks;
       principal = request.principal;
       user_agent = user_agent_of request.headers;
+      profile = settings.profile;
     }
 
 -- the resource at the path, whose path has a trailing slash if it is a directory

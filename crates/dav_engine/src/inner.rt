@@ -1,12 +1,13 @@
 //! The engine's struct, and functions that several methods share.
 ghost use Rattle.std.specs.Prelude.{◌≡◌, IfOk, OnErr, option_map, option_copied, string_bytes};
+ghost use Rattle.dav_resource.specs.declared.profile.Profile.TheVariants.{Crate};
 ghost use Rattle.dav_engine.specs.DavInner.{lent, lent_locks, loans, made_with};
 ghost use Rattle.dav_messages.specs.Dialogue.{look_up as look_up_of};
 ghost use Rattle.dav_engine.specs.Rules.{look_up_result as look_up_result_of, fixed_path as fixed_path_of, is_directory as is_directory_found};
 ghost use Rattle.dav_engine.specs.ByEngine.{IsSameEngine, JudgesBy};
 
 use dav_messages::look_up;
-use dav_resource::{DavError, DavMethodSet, DavPath, DavResult, FsError, FsResult, Meta};
+use dav_resource::{DavError, DavMethodSet, DavPath, DavResult, FsError, FsResult, Meta, Profile};
 use dav_store::{DavLockSystem, GuardedFileSystem};
 use std::alloc::AllocError;
 
@@ -21,10 +22,11 @@ pub struct DavInner<'a, C, F, L> {
     pub(crate) prefix: String,
     pub(crate) allow: Option<DavMethodSet>,
     pub(crate) credentials: C,
+    pub(crate) profile: Profile,
 }
 
 impl<'a, C: Drop, F: GuardedFileSystem<C>, L: DavLockSystem> DavInner<'a, C, F, L> {
-    /// Creates an engine over this store and, if there is one, this lock system.
+    /// Creates an engine over this store and, if there is one, this lock system, with the profile `Crate`.
     ///
     /// `prefix` is the path prefix of the server's URLs: the path in `Destination` has to be below it.
     /// `allow` is the set of methods that the embedding program enables (`None`: all). It only decides which
@@ -40,7 +42,7 @@ impl<'a, C: Drop, F: GuardedFileSystem<C>, L: DavLockSystem> DavInner<'a, C, F, 
         ensures same_loans { loans result ≡ (fs.entry.ghost_name, option_map (λ l. l.ghost_name) ls.entry) }
         ensures store { lent result ≡ fs.old }
         ensures locks { lent_locks result ≡ option_map (λ l. l.now) ls.entry }
-        ensures settings { made_with result ≡ (string_bytes prefix, allow, credentials) }
+        ensures settings { made_with result ≡ (string_bytes prefix, allow, credentials, Crate) }
     {
         DavInner {
             fs,
@@ -48,7 +50,15 @@ impl<'a, C: Drop, F: GuardedFileSystem<C>, L: DavLockSystem> DavInner<'a, C, F, 
             prefix,
             allow,
             credentials,
+            profile: Profile::Crate,
         }
+    }
+
+    /// Returns the engine with this profile.
+    pub fn with_profile(self, profile: Profile) -> Self
+        ensures { result ≡ record self.entry { profile = profile } }
+    {
+        DavInner { profile, ..self }
     }
 
     /// Returns the path prefix of the server's URLs.

@@ -105,7 +105,7 @@ impl<'a, C: Drop, F: GuardedFileSystem<C>, L: DavLockSystem> DavInner<'a, C, F, 
         requires locks { has_locks self.old ≡ true }
         requires info { lock_info_of request.now.body ≡ Some info.now }
         ensures same_engine { IsSameEngine self.old self.new }
-        ensures work { WorkBy F.seen L.seen (NewLockWork request.entry.now found) (NewLockCut request.entry.now found) self.old (answer_of result) self.new }
+        ensures work { WorkBy F.seen L.seen (NewLockWork self.old.profile request.entry.now found) (NewLockCut request.entry.now found) self.old (answer_of result) self.new }
     {
         let lock = self.add_lock(request, &found, info)?;
         match self.answer_lock(request, &found, &lock) {
@@ -158,10 +158,10 @@ impl<'a, C: Drop, F: GuardedFileSystem<C>, L: DavLockSystem> DavInner<'a, C, F, 
     ) -> DavResult<Response<Body>>
         ensures same_engine { IsSameEngine self.old self.new }
         ensures same_locks { lent_locks self.new ≡ lent_locks self.old }
-        ensures work { StoreWorkBy F.seen (AnswersLock request.entry.now found.now lock.now) Unbegun self.old (answer_of result) self.new }
+        ensures work { StoreWorkBy F.seen (AnswersLock self.old.profile request.entry.now found.now lock.now) Unbegun self.old (answer_of result) self.new }
     {
         let alloc = *self.prefix.allocator();
-        let reply = granted_reply(alloc, request, found, lock)?;
+        let reply = granted_reply(alloc, self.profile, request, found, lock)?;
         if found.is_some() {
             return Ok(reply);
         }

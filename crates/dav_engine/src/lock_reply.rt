@@ -5,8 +5,8 @@ ghost use Rattle.dav_messages.specs.Reply.{reply_of};
 ghost use Rattle.dav_engine.specs.LockReply.{lock_reply as reply_of_lock, granted_reply as reply_of_granted, refreshed_reply as reply_of_refreshed, unlocked_reply as reply_of_unlocked};
 
 use crate::location::add_location;
-use dav_messages::{add_header, build_lock_prop, header_value, xml_headers};
-use dav_resource::{Body, DavPath, DavRequest, DavResult, Meta};
+use dav_messages::{add_header, header_value, lock_prop, xml_headers};
+use dav_resource::{Body, DavPath, DavRequest, DavResult, Meta, Profile};
 use dav_store::DavLock;
 use http::{Response, StatusCode};
 use http_header::{HeaderMap, HeaderName, HeaderValue};
@@ -16,11 +16,12 @@ use std::alloc::Global;
 /// 201, with the request's token in `Lock-Token`. The only error is `Memory`.
 pub(crate) fn granted_reply(
     alloc: Global,
+    profile: Profile,
     request: &DavRequest,
     found: &Option<Meta>,
     lock: &DavLock,
 ) -> DavResult<Response<Body>>
-    ensures ok { IfOk result (λ reply. reply_of reply ≡ reply_of_granted request.entry.now found.now lock.now) }
+    ensures ok { IfOk result (λ reply. reply_of reply ≡ reply_of_granted profile request.entry.now found.now lock.now) }
     ensures err { IfErr result (λ e. e ≡ Memory) }
 {
     let mut headers = xml_headers(alloc)?;
@@ -31,7 +32,7 @@ pub(crate) fn granted_reply(
         Some(token),
     )?;
     add_location(&mut headers, &request.path, found)?;
-    lock_reply(alloc, granted_status(found), headers, lock)
+    lock_reply(alloc, profile, granted_status(found), headers, lock)
 }
 
 /// Returns 200 if something was found, else 201.
@@ -47,16 +48,17 @@ fn granted_status(found: &Option<Meta>) -> StatusCode
 /// Makes the response to a LOCK that refreshed a lock (RFC 4918, section 9.10.2). The only error is `Memory`.
 pub(crate) fn refreshed_reply(
     alloc: Global,
+    profile: Profile,
     path: &DavPath,
     found: &Option<Meta>,
     lock: &DavLock,
 ) -> DavResult<Response<Body>>
-    ensures ok { IfOk result (λ reply. reply_of reply ≡ reply_of_refreshed path.now found.now lock.now) }
+    ensures ok { IfOk result (λ reply. reply_of reply ≡ reply_of_refreshed profile path.now found.now lock.now) }
     ensures err { IfErr result (λ e. e ≡ Memory) }
 {
     let mut headers = xml_headers(alloc)?;
     add_location(&mut headers, path, found)?;
-    lock_reply(alloc, StatusCode::OK, headers, lock)
+    lock_reply(alloc, profile, StatusCode::OK, headers, lock)
 }
 
 /// Makes the response to an UNLOCK (RFC 4918, section 9.11). The only error is `Memory`.
@@ -80,14 +82,15 @@ pub(crate) fn unlocked_reply(
 /// error is `Memory`.
 fn lock_reply(
     alloc: Global,
+    profile: Profile,
     status: StatusCode,
     headers: HeaderMap<HeaderValue>,
     lock: &DavLock,
 ) -> DavResult<Response<Body>>
-    ensures ok { IfOk result (λ reply. reply_of reply ≡ record (reply_of_lock status [] lock.now) { headers = headers }) }
+    ensures ok { IfOk result (λ reply. reply_of reply ≡ record (reply_of_lock profile status [] lock.now) { headers = headers }) }
     ensures err { IfErr result (λ e. e ≡ Memory) }
 {
-    let tree = build_lock_prop(alloc, lock, true)?;
+    let tree = lock_prop(alloc, profile, lock, true)?;
     let mut reply = Response::new(alloc, Body::Tree(tree));
     *reply.status_mut() = status;
     *reply.headers_mut() = headers;

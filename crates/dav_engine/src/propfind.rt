@@ -96,6 +96,7 @@ impl<'a, C: Drop, F: GuardedFileSystem<C>, L: DavLockSystem> DavInner<'a, C, F, 
             user_agent: user_agent(request),
             ls: shared(&self.ls),
             credentials: &self.credentials,
+            profile: self.profile,
         };
         let depth = depth_or_default(request);
         let writer = finder.propfind_directory(self.fs, &target, depth, writer)?;

@@ -59,10 +59,11 @@ impl<'a, C: Drop, F: GuardedFileSystem<C>, L: DavLockSystem> DavInner<'a, C, F, 
         requires locks { has_locks self.old ≡ true }
         requires token { submitted_tokens request.now ≡ token.now ∷ [] }
         ensures same_engine { IsSameEngine self.old self.new }
-        ensures work { WorkBy F.seen L.seen (RefreshWork request.entry.now found) (RefreshCut request.entry.now) self.old (answer_of result) self.new }
+        ensures work { WorkBy F.seen L.seen (RefreshWork self.old.profile request.entry.now found) (RefreshCut request.entry.now) self.old (answer_of result) self.new }
     {
         let lock = self.renew_lock(request, token)?;
-        refreshed_reply(*self.prefix.allocator(), &request.path, &found, &lock)
+        let alloc = *self.prefix.allocator();
+        refreshed_reply(alloc, self.profile, &request.path, &found, &lock)
     }
 
     /// Has the lock system give the lock its new timeout, which is that of an exclusive lock, whatever the

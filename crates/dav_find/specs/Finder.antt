@@ -25,6 +25,7 @@ view_of seen finder facts =
       locks = locks_in seen (option_copied finder.ls);
       principal = option_copied finder.principal;
       user_agent = option_copied finder.user_agent;
+      profile = finder.profile;
     }
 
 -- the status of a call's outcome: that of the error if the call was refused, otherwise 404

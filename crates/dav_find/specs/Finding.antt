@@ -15,6 +15,7 @@ use Rattle.dav_store.specs.PropertyCalls.{get_prop_call, get_quota_call, propert
 use Rattle.dav_store.specs.Store.{Contents, Quota, property_key}
 use Rattle.dav_store.specs.declared.lock.DavLock.{DavLock}
 use Rattle.dav_messages.specs.Dialogue.{Dialogue, Asks, Passed, ◌>>=◌}
+use Rattle.dav_resource.specs.declared.profile.Profile.{Profile}
 use Rattle.dav_resource.specs.declared.property.DavProp.{DavProp}
 use Rattle.dav_props.specs.Live.{is_kept}
 use Rattle.dav_props.specs.Property.{prop_named}
@@ -28,8 +29,8 @@ use Rattle.dav_find.specs.Asked.{AskedProperty}
 use Rattle.dav_find.specs.declared.finding.Found.{Found}
 use Rattle.dav_find.specs.Asked.{names_only, named_only}
 
--- the kind of search, whether the store supports dead properties, which members a listing may show, the locks if there is a lock system, and the
--- principal and client of the request
+-- the kind of search, whether the store supports dead properties, which members a listing may show, the locks if there is a lock system, the
+-- principal and client of the request, and the profile of the engine
 pub record View : Type 0 where
   pub kind : FindKind
   pub keeps : Bool
@@ -37,6 +38,7 @@ pub record View : Type 0 where
   pub locks : Option (List DavLock)
   pub principal : Option (List ℕ)
   pub user_agent : Option (List ℕ)
+  pub profile : Profile
 
 -- ---- what a call returns
 
@@ -73,7 +75,8 @@ quota_status (Some (Ok quota)) = 404
 quota_status (Some (Err status)) = status
 
 abbrev pub asker_with : View → Option QuotaAnswer → Asker
-asker_with view quota = record { principal = view.principal; user_agent = view.user_agent; quota = quota_in quota }
+asker_with view quota =
+    record { principal = view.principal; user_agent = view.user_agent; quota = quota_in quota; profile = view.profile }
 
 -- the property as it is reported, or if its value is not known, the status in `quota` if there is one, otherwise 404
 abbrev pub live_result : View → Resource → Tree → LiveProperty → Option QuotaAnswer → Result Tree ℕ

@@ -21,3 +21,4 @@ pub mod AskedOnceLaws
 pub mod Ordered
 pub mod OrderedLaws
 pub mod NamedLaws
+pub mod SameNames

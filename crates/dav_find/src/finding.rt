@@ -13,7 +13,7 @@ use crate::asked::AskedProperty;
 use crate::refusal::returned_by;
 use crate::search::Search;
 use dav_live::{LiveProperty, Viewer, live_element};
-use dav_resource::{DavPath, DavProp, DavResult, Element, Items, SharedElement};
+use dav_resource::{DavPath, DavProp, DavResult, Element, Items, Profile, SharedElement};
 use dav_store::{DavLockSystem, GuardedFileSystem};
 use dav_walks::Resource;
 use http::StatusCode;
@@ -32,7 +32,7 @@ pub struct Found<'r> {
 /// says why it did not (RFC 4331).
 pub(crate) type QuotaAnswer = Result<(u64, Option<u64>), StatusCode>;
 
-/// A search for properties of resources: which properties, for which client, and with which lock system.
+/// A search for properties of resources: which properties, for which client, with which lock system, and in which profile.
 #[derive(Clone, Copy, Debug)]
 pub struct Finder<'r, C, L> {
     /// The allocator.
@@ -47,6 +47,8 @@ pub struct Finder<'r, C, L> {
     pub ls: Option<&'r L>,
     /// The credentials that are passed to each call of the store.
     pub credentials: &'r C,
+    /// What is reported where the Rust crate and the standards differ.
+    pub profile: Profile,
 }
 
 impl<'r, C, L: DavLockSystem> Finder<'r, C, L> {
@@ -128,6 +130,7 @@ impl<'r, C, L: DavLockSystem> Finder<'r, C, L> {
             principal: self.principal,
             user_agent: self.user_agent,
             quota: quota_in(quota),
+            profile: self.profile,
         };
         let names_only = self.search.kind.names_only();
         let value = live_element(

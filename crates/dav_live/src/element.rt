@@ -7,10 +7,11 @@ ghost use Rattle.dav_live.specs.Live.{value_shown};
 use crate::property::LiveProperty;
 use crate::text::live_text;
 use crate::tree::{
-    current_user_principal, lock_discovery, resource_type, supported_lock, text_property,
+    current_user_principal, lock_discovery, reported_in, resource_type, supported_lock,
+    text_property,
 };
 use crate::viewer::Viewer;
-use dav_resource::{DavPath, DavResult, Element, ElementName, Meta};
+use dav_resource::{DavPath, DavResult, Element, ElementName, LiveName, Meta};
 use dav_store::DavLockSystem;
 use std::alloc::Global;
 
@@ -18,7 +19,7 @@ use std::alloc::Global;
 /// not known (RFC 4918, sections 9.1 and 15).
 ///
 /// `asked` is the element that named the property, and `meta` is the store's metadata of the resource. With
-/// `names_only` no value is added. The only error is `Memory`.
+/// `names_only` no value is added. In the profile `Standard` nothing of `asked` is reported. The only error is `Memory`.
 pub fn live_element<L: DavLockSystem>(
     alloc: Global,
     property: LiveProperty,
@@ -33,15 +34,24 @@ pub fn live_element<L: DavLockSystem>(
     ensures err { IfErr result (λ e. e ≡ Memory) }
 {
     match property {
-        LiveProperty::LockDiscovery => Ok(Some(lock_discovery(alloc, names_only, ls, path)?)),
+        LiveProperty::LockDiscovery => {
+            Ok(Some(lock_discovery(alloc, viewer.profile, names_only, ls, path)?))
+        }
         LiveProperty::SupportedLock => {
             Ok(Some(supported_lock(alloc, names_only, ls.is_some())?))
         }
         LiveProperty::ResourceType => {
-            Ok(Some(resource_type(alloc, asked, names_only, meta.dir)?))
+            let element = reported_in(alloc, viewer.profile, asked, LiveName::ResourceType)?;
+            Ok(Some(resource_type(alloc, element, names_only, meta.dir)?))
         }
         LiveProperty::CurrentUserPrincipal => {
-            Ok(current_user_principal(alloc, asked, names_only, viewer.principal)?)
+            let element = reported_in(
+                alloc,
+                viewer.profile,
+                asked,
+                LiveName::CurrentUserPrincipal,
+            )?;
+            Ok(current_user_principal(alloc, element, names_only, viewer.principal)?)
         }
         _ => {
             let text = live_text(alloc, property, viewer, path, meta)?;

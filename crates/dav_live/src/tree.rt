@@ -3,13 +3,13 @@ ghost use Rattle.std.specs.Prelude.{◌≡◌, ◌∷◌, [], codes, IfOk, IfErr
 ghost use Rattle.std.specs.Option.{option_copied};
 ghost use Rattle.dav_resource.specs.declared.error.DavError.TheVariants.{Memory};
 ghost use Rattle.dav_resource.specs.Tree.{prefixed_element};
-ghost use Rattle.dav_resource.specs.ElementNames.{name_text};
+ghost use Rattle.dav_resource.specs.ElementNames.{live_text, name_text};
 ghost use Rattle.dav_messages.specs.Conditions.{locks_in};
 ghost use Rattle.dav_messages.specs.DavElement.{with_elements};
-ghost use Rattle.dav_live.specs.Live.{resource_type as tree_of_type, current_user_principal as tree_of_principal, text_property as property_of_text, locks_of as tree_of_locks, lock_kinds as tree_of_kinds};
+ghost use Rattle.dav_live.specs.Live.{resource_type as tree_of_type, current_user_principal as tree_of_principal, reported_in as element_reported, text_property as property_of_text, locks_of as tree_of_locks, lock_kinds as tree_of_kinds};
 
-use dav_messages::{list_lockdiscovery, list_supportedlock, text_element};
-use dav_resource::{DavPath, DavResult, Element, ElementName, LiveName, Text};
+use dav_messages::{list_supportedlock, lockdiscovery, text_element};
+use dav_resource::{DavPath, DavResult, Element, ElementName, LiveName, Profile, Text};
 use dav_store::DavLockSystem;
 use std::alloc::{AllocError, Global};
 
@@ -33,20 +33,35 @@ pub(crate) fn text_property(
     }
 }
 
-/// Returns the requested element, for a directory with `D:collection` appended unless `names_only` is set.
+/// Returns the element in which a property of this name is reported: the requested one, or the server's own.
+pub(crate) fn reported_in(
+    alloc: Global,
+    profile: Profile,
+    asked: &Element,
+    name: LiveName,
+) -> Result<Element, AllocError>
+    ensures { IfOk result (λ reported. reported ≡ element_reported profile asked.now (live_text name)) }
+{
+    if profile.repeats_request() {
+        asked.clone()
+    } else {
+        Ok(Element::constant(alloc, ElementName::Live(name)))
+    }
+}
+
+/// Returns the element, for a directory with `D:collection` appended unless `names_only` is set.
 pub(crate) fn resource_type(
     alloc: Global,
-    asked: &Element,
+    element: Element,
     names_only: bool,
     dir: bool,
 ) -> Result<Element, AllocError>
-    ensures { IfOk result (λ reported. reported ≡ tree_of_type asked.now names_only dir) }
+    ensures { IfOk result (λ reported. reported ≡ tree_of_type element names_only dir) }
 {
-    let reported = asked.clone()?;
     if dir && !names_only {
-        with_collection(alloc, reported)
+        with_collection(alloc, element)
     } else {
-        Ok(reported)
+        Ok(element)
     }
 }
 
@@ -58,20 +73,20 @@ fn with_collection(alloc: Global, mut element: Element) -> Result<Element, Alloc
     Ok(element)
 }
 
-/// Returns the requested element with the principal appended as `D:href`, or `None` without a principal. With
+/// Returns the element with the principal appended as `D:href`, or `None` without a principal. With
 /// `names_only` the principal is left out.
 pub(crate) fn current_user_principal(
     alloc: Global,
-    asked: &Element,
+    element: Element,
     names_only: bool,
     principal: Option<&str>,
 ) -> Result<Option<Element>, AllocError>
-    ensures { IfOk result (λ reported. reported ≡ tree_of_principal asked.now names_only (option_copied principal.entry)) }
+    ensures { IfOk result (λ reported. reported ≡ tree_of_principal element names_only (option_copied principal.entry)) }
 {
     let Some(principal) = principal else {
         return Ok(None);
     };
-    let mut reported = asked.clone()?;
+    let mut reported = element;
     if !names_only {
         let principal = Text::from_str(alloc, principal)?;
         reported.push_element(text_element(alloc, ElementName::Href, principal)?)?;
@@ -83,17 +98,18 @@ pub(crate) fn current_user_principal(
 /// only error is `Memory`.
 pub(crate) fn lock_discovery<L: DavLockSystem>(
     alloc: Global,
+    profile: Profile,
     names_only: bool,
     ls: Option<&L>,
     path: &DavPath,
 ) -> DavResult<Element>
-    ensures ok { IfOk result (λ reported. reported ≡ tree_of_locks names_only (locks_in L.seen (option_copied ls.entry)) path.now.key) }
+    ensures ok { IfOk result (λ reported. reported ≡ tree_of_locks profile names_only (locks_in L.seen (option_copied ls.entry)) path.now.key) }
     ensures err { IfErr result (λ e. e ≡ Memory) }
 {
     if names_only {
         Ok(Element::constant(alloc, ElementName::Live(LiveName::LockDiscovery)))
     } else {
-        list_lockdiscovery(alloc, ls, path)
+        lockdiscovery(alloc, profile, ls, path)
     }
 }
 

@@ -3,7 +3,9 @@ ghost use Rattle.std.specs.Prelude.{◌≡◌, ◌++◌, ◌↔◌, IsTrue};
 ghost use Rattle.std.specs.Option.{option_copied};
 ghost use Rattle.dav_live.specs.Viewing.{names_microsoft, names_webdavfs};
 
-/// The client that requests properties, and the store's quota.
+use dav_resource::Profile;
+
+/// The client that requests properties, the store's quota, and the profile of the engine.
 #[derive(Clone, Copy, Debug)]
 pub struct Viewer<'r> {
     /// The principal of the request, if known.
@@ -13,6 +15,8 @@ pub struct Viewer<'r> {
     /// The bytes that the store uses, and the total if known. `None` if the store did not report its quota
     /// (RFC 4331).
     pub quota: Option<(u64, Option<u64>)>,
+    /// What is reported where the Rust crate and the standards differ.
+    pub profile: Profile,
 }
 
 /// Returns whether the client is the macOS file system, whose User-Agent contains `WebDAVFS`.

@@ -4,7 +4,9 @@ use Rattle.std.specs.Option.{option_map_or}
 use Rattle.std.specs.Fmt.{decimal}
 use Rattle.dav_key.specs.Key.{Key}
 use Rattle.dav_resource.specs.PathText.{PathValue}
+use Rattle.dav_resource.specs.Profile.{depth_word}
 use Rattle.dav_resource.specs.Tree.{Tree, prefixed_element}
+use Rattle.dav_resource.specs.declared.profile.Profile.{Profile}
 use Rattle.dav_store.specs.Locks.{covering}
 use Rattle.dav_store.specs.declared.lock.DavLock.{DavLock}
 use Rattle.dav_messages.specs.DavElement.{with_elements, declaring_element, text_element, href_element}
@@ -20,8 +22,8 @@ lock_scope shared =
 abbrev pub lock_type : Tree
 lock_type = with_elements (prefixed_element (codes "D:locktype")) (prefixed_element (codes "D:write") ∷ [])
 
-abbrev pub depth_text : Bool → List ℕ
-depth_text deep = if deep then codes "Infinity" else codes "0"
+abbrev pub depth_text : Profile → Bool → List ℕ
+depth_text profile deep = if deep then depth_word profile else codes "0"
 
 -- a number of seconds, or infinite (RFC 4918, section 10.7)
 abbrev pub timeout_text : Option ℕ → List ℕ
@@ -37,12 +39,12 @@ abbrev pub lock_root : PathValue → Tree
 lock_root path = with_elements (prefixed_element (codes "D:lockroot")) (href_element path ∷ [])
 
 -- the owner last, as the lock has it, if it has one
-abbrev pub active_lock : DavLock → Tree
-active_lock lock =
+abbrev pub active_lock : Profile → DavLock → Tree
+active_lock profile lock =
     with_elements (prefixed_element (codes "D:activelock"))
     (lock_scope lock.shared
     ∷ lock_type
-    ∷ text_element (codes "D:depth") (depth_text lock.deep)
+    ∷ text_element (codes "D:depth") (depth_text profile lock.deep)
     ∷ text_element (codes "D:timeout") (timeout_text lock.timeout)
     ∷ token_element lock.token
     ∷ lock_root lock.path
@@ -51,16 +53,17 @@ active_lock lock =
 -- ---- the locks that cover a path
 
 -- each lock, in order
-abbrev pub lock_discovery : List DavLock → Tree
-lock_discovery locks = with_elements (prefixed_element (codes "D:lockdiscovery")) (map active_lock locks)
+abbrev pub lock_discovery : Profile → List DavLock → Tree
+lock_discovery profile locks = with_elements (prefixed_element (codes "D:lockdiscovery")) (map (active_lock profile) locks)
 
 -- the locks that cover a key, none without a lock system
 abbrev pub covering_in : Option (List DavLock) → Key → List DavLock
 covering_in locks key = option_map_or (λ list. covering list key) locks []
 
 -- one lock: in full as the property `D:lockdiscovery` in a `D:prop`, else only its `D:activelock`
-abbrev pub lock_prop : DavLock → Bool → Tree
-lock_prop lock full = if full then with_elements (declaring_element (codes "D:prop")) (lock_discovery (lock ∷ []) ∷ []) else active_lock lock
+abbrev pub lock_prop : Profile → DavLock → Bool → Tree
+lock_prop profile lock full =
+    if full then with_elements (declaring_element (codes "D:prop")) (lock_discovery profile (lock ∷ []) ∷ []) else active_lock profile lock
 
 -- ---- the supported locks
 

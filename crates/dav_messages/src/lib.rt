@@ -16,7 +16,9 @@ pub use conditional::{
     dav_if_match, etaglist_match, http_if_match, if_match, if_match_get_tokens, ifrange_match,
 };
 pub use dav_element::{declaring_element, href_element, is_named, text_element};
-pub use lock_tree::{build_lock_prop, list_lockdiscovery, list_supportedlock, timeout_text};
+pub use lock_tree::{
+    build_lock_prop, list_lockdiscovery, list_supportedlock, lock_prop, lockdiscovery, timeout_text,
+};
 pub use lookup::look_up;
 pub use multierror::{MultiError, multi_error};
 pub use multistatus::{add_xml_type, status_element, status_line, xml_headers};

@@ -1,39 +1,62 @@
 //! XML elements that describe locks (RFC 4918, sections 14.1 to 14.13, 15.8 and 15.10).
 ghost use Rattle.std.specs.Prelude.{◌≡◌, IfOk, IfErr, option_copied, string_bytes};
 ghost use Rattle.dav_resource.specs.declared.error.DavError.TheVariants.{Memory};
+ghost use Rattle.dav_resource.specs.declared.profile.Profile.TheVariants.{Crate};
 ghost use Rattle.dav_messages.specs.Conditions.{locks_in};
 ghost use Rattle.dav_messages.specs.LockTree.{lock_scope as scope_of_lock, lock_type as type_of_lock, depth_text as text_of_depth, timeout_text as text_of_timeout, token_element as element_of_token, lock_root as element_of_root, active_lock as tree_of_lock, lock_discovery as tree_of_locks, covering_in, lock_prop as shown_lock, lock_entry as entry_of_scope, supported_lock as tree_of_entries};
 
 use crate::dav_element::{declaring_element, href_element, outer_element, text_element};
-use dav_resource::{DavError, DavPath, DavResult, Element, ElementName, LiveName, Text};
+use dav_resource::{DavError, DavPath, DavResult, Element, ElementName, LiveName, Profile, Text};
 use dav_store::{DavLock, DavLockSystem};
 use std::alloc::{AllocError, Global};
 
 /// Returns the XML that describes a lock (RFC 4918, sections 9.10.1, 14.1 and 15.8). With `full`, as in the
 /// response to LOCK, it is a `D:prop` that declares the prefix and holds the property `D:lockdiscovery` with
-/// this lock only. Otherwise it is only the lock's `D:activelock`. The only error is `Memory`.
+/// this lock only. Otherwise it is only the lock's `D:activelock`. The profile is `Crate`. The only error is `Memory`.
 pub fn build_lock_prop(alloc: Global, lock: &DavLock, full: bool) -> DavResult<Element>
-    ensures ok { IfOk result (λ tree. tree ≡ shown_lock lock.now full) }
+    ensures ok { IfOk result (λ tree. tree ≡ shown_lock Crate lock.now full) }
     ensures err { IfErr result (λ e. e ≡ Memory) }
 {
-    Ok(lock_prop(alloc, lock, full)?)
+    lock_prop(alloc, Profile::Crate, lock, full)
+}
+
+/// Returns the XML that describes a lock, as [`build_lock_prop`] does, in this profile.
+pub fn lock_prop(alloc: Global, profile: Profile, lock: &DavLock, full: bool) -> DavResult<Element>
+    ensures ok { IfOk result (λ tree. tree ≡ shown_lock profile lock.now full) }
+    ensures err { IfErr result (λ e. e ≡ Memory) }
+{
+    Ok(lock_tree(alloc, profile, lock, full)?)
 }
 
 /// Returns the property `D:lockdiscovery` of a path (RFC 4918, section 15.8): a `D:activelock` for each lock
-/// that covers the path, the oldest first. Without a lock system it is empty. The only error is `Memory`.
+/// that covers the path, the oldest first. Without a lock system it is empty. The profile is `Crate`. The only error is
+/// `Memory`.
 pub fn list_lockdiscovery<L: DavLockSystem>(
     alloc: Global,
     ls: Option<&L>,
     path: &DavPath,
 ) -> DavResult<Element>
-    ensures ok { IfOk result (λ tree. tree ≡ tree_of_locks (covering_in (locks_in L.seen (option_copied ls.entry)) path.now.key)) }
+    ensures ok { IfOk result (λ tree. tree ≡ tree_of_locks Crate (covering_in (locks_in L.seen (option_copied ls.entry)) path.now.key)) }
+    ensures err { IfErr result (λ e. e ≡ Memory) }
+{
+    lockdiscovery(alloc, Profile::Crate, ls, path)
+}
+
+/// Returns the property `D:lockdiscovery` of a path, as [`list_lockdiscovery`] does, in this profile.
+pub fn lockdiscovery<L: DavLockSystem>(
+    alloc: Global,
+    profile: Profile,
+    ls: Option<&L>,
+    path: &DavPath,
+) -> DavResult<Element>
+    ensures ok { IfOk result (λ tree. tree ≡ tree_of_locks profile (covering_in (locks_in L.seen (option_copied ls.entry)) path.now.key)) }
     ensures err { IfErr result (λ e. e ≡ Memory) }
 {
     let Some(ls) = ls else {
-        return Ok(lock_discovery(alloc, &[])?);
+        return Ok(lock_discovery(alloc, profile, &[])?);
     };
     match ls.discover(path) {
-        Ok(locks) => Ok(lock_discovery(alloc, locks.as_slice())?),
+        Ok(locks) => Ok(lock_discovery(alloc, profile, locks.as_slice())?),
         Err(_) => Err(DavError::Memory),
     }
 }
@@ -58,10 +81,15 @@ pub fn timeout_text(alloc: Global, timeout: Option<u64>) -> Result<String, Alloc
     }
 }
 
-fn lock_prop(alloc: Global, lock: &DavLock, full: bool) -> Result<Element, AllocError>
-    ensures { IfOk result (λ tree. tree ≡ shown_lock lock.now full) }
+fn lock_tree(
+    alloc: Global,
+    profile: Profile,
+    lock: &DavLock,
+    full: bool,
+) -> Result<Element, AllocError>
+    ensures { IfOk result (λ tree. tree ≡ shown_lock profile lock.now full) }
 {
-    let active = active_lock(alloc, lock)?;
+    let active = active_lock(alloc, profile, lock)?;
     if !full {
         return Ok(active);
     }
@@ -71,21 +99,21 @@ fn lock_prop(alloc: Global, lock: &DavLock, full: bool) -> Result<Element, Alloc
 }
 
 /// Returns a `D:lockdiscovery` with a `D:activelock` for each lock, in order.
-fn lock_discovery(alloc: Global, locks: &[DavLock]) -> Result<Element, AllocError>
-    ensures { IfOk result (λ tree. tree ≡ tree_of_locks locks.now) }
+fn lock_discovery(alloc: Global, profile: Profile, locks: &[DavLock]) -> Result<Element, AllocError>
+    ensures { IfOk result (λ tree. tree ≡ tree_of_locks profile locks.now) }
 {
     let mut tree = Element::constant(alloc, ElementName::Live(LiveName::LockDiscovery));
     for lock in locks {
-        tree.push_element(active_lock(alloc, lock)?)?;
+        tree.push_element(active_lock(alloc, profile, lock)?)?;
     }
     Ok(tree)
 }
 
 /// Returns the `D:activelock` of a lock, with its owner last, if it has one.
-fn active_lock(alloc: Global, lock: &DavLock) -> Result<Element, AllocError>
-    ensures { IfOk result (λ tree. tree ≡ tree_of_lock lock.now) }
+fn active_lock(alloc: Global, profile: Profile, lock: &DavLock) -> Result<Element, AllocError>
+    ensures { IfOk result (λ tree. tree ≡ tree_of_lock profile lock.now) }
 {
-    let depth = Text::from_str(alloc, depth_text(lock.deep))?;
+    let depth = Text::from_str(alloc, depth_text(profile, lock.deep))?;
     let timeout = Text::from_string(timeout_text(alloc, lock.timeout)?);
     let mut tree = Element::constant(alloc, ElementName::ActiveLock);
     tree.push_element(lock_scope(alloc, lock.shared)?)?;
@@ -128,10 +156,10 @@ fn lock_type(alloc: Global) -> Result<Element, AllocError>
 }
 
 /// Returns the depth of a lock: whether it covers everything below its path.
-fn depth_text(deep: bool) -> &'static str
-    ensures { result.now ≡ text_of_depth deep }
+fn depth_text(profile: Profile, deep: bool) -> &'static str
+    ensures { result.now ≡ text_of_depth profile deep }
 {
-    if deep { "Infinity" } else { "0" }
+    if deep { profile.depth_word() } else { "0" }
 }
 
 /// Returns the token, as it is.

@@ -16,3 +16,4 @@ pub mod ElementFalls
 pub mod Methods
 pub mod ETags
 pub mod LockToken
+pub mod Profile

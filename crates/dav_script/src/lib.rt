@@ -12,6 +12,7 @@ mod outline_line;
 mod outline_read;
 mod outline_write;
 mod print;
+mod profile_line;
 mod quote;
 mod refusal;
 mod refuse;

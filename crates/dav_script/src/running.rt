@@ -4,13 +4,14 @@ ghost use Rattle.std.specs.Io.KnownBytes.{Appends, IsAtEnd};
 ghost use Rattle.dav_resource.specs.PathText.{read_prefix};
 ghost use Rattle.dav_resource.specs.Texts.{texts};
 ghost use Rattle.dav_script.specs.Arguments.{AreUsable};
-ghost use Rattle.dav_script.specs.Serving.{IsAllServed, Shared, first_shared, prefix_in, shared_by};
+ghost use Rattle.dav_script.specs.Serving.{IsAllServed, IsReadFrom, Shared, first_shared, prefix_in, shared_by};
 ghost use Rattle.dav_script.specs.Status.{SaysFault, trouble_line};
 
 use crate::faults::ScriptError;
+use crate::profile_line::split_profile;
 use crate::serving::Session;
 use crate::trouble::{Stopped, Trouble, report};
-use dav_resource::{DavError, DavPath};
+use dav_resource::{DavError, DavPath, Profile};
 use std::alloc::Global;
 use std::io::{Read, Write};
 
@@ -70,28 +71,28 @@ pub fn run_script<S: Script, I: Read, O: Write, E: Write>(
     ensures refused { result ≡ 2 → output.new ≡ output.old }
     ensures said { result ≡ 2 → SaysFault program.now (texts arguments.now) (E.contents errors.old) (E.contents errors.new) }
 {
-    let (prefix, script) = match read_all::<S, I>(alloc, arguments, input) {
+    let (prefix, profile, script) = match read_all::<S, I>(alloc, arguments, input) {
         Ok(read) => read,
         Err(trouble) => return report(errors, program, trouble),
     };
-    match serve_all(alloc, prefix, script, output) {
+    match serve_all(alloc, profile, prefix, script, output) {
         Ok(()) => 0,
         Err(stopped) => report(errors, program, Trouble::Stopped(stopped)),
     }
 }
 
-/// Checks the prefix, then reads the whole script.
+/// Checks the prefix, then reads the whole script, and the profile that its first line chooses.
 fn read_all<'a, S: Script, I: Read>(
     alloc: Global,
     arguments: &'a [String],
     input: &mut I,
-) -> Result<(&'a str, S), Trouble>
+) -> Result<(&'a str, Profile, S), Trouble>
     ensures usage { 1 < length arguments.now → IsErrOf result Trouble.Usage × (input.new ≡ input.old) }
     ensures usable { OnOk result (AreUsable (texts arguments.now)) }
     ensures unusable { IfErr result (λ e. e ≡ Trouble.Usage → ¬ (AreUsable (texts arguments.now))) }
     ensures whole { OnOk result (IsAtEnd (I.remaining input.new)) }
     ensures prefix { IfOk result (λ read. read.0.now ≡ prefix_in (texts arguments.now)) }
-    ensures given { IfOk result (λ read. (text : List ℕ) × IfSome (I.remaining input.old) (λ bytes. text ≡ bytes) × S.is_given text read.1) }
+    ensures given { IfOk result (λ read. IsReadFrom S.is_given (I.remaining input.old) read.1 read.2) }
 {
     let prefix = match arguments {
         [] => "",
@@ -100,7 +101,8 @@ fn read_all<'a, S: Script, I: Read>(
     };
     check_prefix(alloc, prefix)?;
     let script = read_input(alloc, input)?;
-    Ok((prefix, S::read(alloc, script.as_slice())?))
+    let (profile, blocks) = split_profile(script.as_slice());
+    Ok((prefix, profile, S::read(alloc, blocks)?))
 }
 
 /// Checks that a prefix can be parsed: it is empty, or it begins with `/` and has valid path segments.
@@ -129,13 +131,14 @@ fn read_input<I: Read>(alloc: Global, input: &mut I) -> Result<Vec<u8>, Stopped>
 /// Serves a script over a new store and lock system, and prints the responses and then what both hold.
 fn serve_all<S: Script, O: Write>(
     alloc: Global,
+    profile: Profile,
     prefix: &str,
     script: S,
     output: &mut O,
 ) -> Result<(), Stopped>
-    ensures { OnOk result ((last : Shared) × S.is_done script (first_shared prefix.now) last) }
+    ensures { OnOk result ((last : Shared) × S.is_done script (first_shared profile prefix.now) last) }
 {
-    let mut session = Session::new(alloc, prefix)?;
+    let mut session = Session::new(alloc, profile, prefix)?;
     script.serve(alloc, &mut session, output)?;
     session.print_end(alloc, output)?;
     Ok(output.flush()?)

@@ -11,7 +11,7 @@ use crate::trouble::Stopped;
 use dav_engine::DavInner;
 use dav_memls::MemLs;
 use dav_refusing::Refusing;
-use dav_resource::{Body, DavError, DavPath, DavRequest, DavResult};
+use dav_resource::{Body, DavError, DavPath, DavRequest, DavResult, Profile};
 use dav_store::GuardedFileSystem;
 use dav_tree::MemFs;
 use http::Response;
@@ -22,9 +22,11 @@ use std::mem;
 /// The results of a run, one for each request.
 type Replies = Vec<DavResult<Response<Body>>>;
 
-/// What the blocks of a script share: an in-memory store, an in-memory lock system, and the current time.
+/// What the blocks of a script share: the profile of the engine, an in-memory store, an in-memory lock system, and the
+/// current time.
 #[derive(Drop)]
 pub struct Session<'a> {
+    profile: Profile,
     prefix: &'a str,
     /// The store, which refuses the calls that the blocks so far plan to be refused.
     pub store: Refusing<MemFs>,
@@ -38,10 +40,11 @@ pub struct Session<'a> {
 impl<'a> Session<'a> {
     /// Creates a session before its first block. The store holds only the root, at time 0, and refuses
     /// nothing. There is no lock. Requests have paths below the prefix. Fails only if memory runs out.
-    pub fn new(alloc: Global, prefix: &'a str) -> Result<Session<'a>, Stopped>
-        ensures { IfOk result (λ session. shared_by session ≡ first_shared prefix.now) }
+    pub fn new(alloc: Global, profile: Profile, prefix: &'a str) -> Result<Session<'a>, Stopped>
+        ensures { IfOk result (λ session. shared_by session ≡ first_shared profile prefix.now) }
     {
         Ok(Session {
+            profile,
             prefix,
             store: Refusing::new(alloc, MemFs::new(alloc)?),
             locks: MemLs::new(alloc),
@@ -168,26 +171,28 @@ impl<'a> Session<'a> {
         ensures { IfOk result (λ run. OnOk run (AreRun (shared_by self.old) requests.now (shared_by self.new))) }
     {
         let prefix = String::from_str(alloc, self.prefix)?;
-        let (replies, store, locks) = run_over(&mut self.store, &mut self.locks, prefix, requests);
+        let (replies, store, locks) =
+            run_over(&mut self.store, &mut self.locks, self.profile, prefix, requests);
         give_back(store, locks);
         Ok(replies)
     }
 }
 
-/// Serves requests in one run of a new engine over a store and a lock system, below this prefix, and returns
-/// both.
+/// Serves requests in one run of a new engine over a store and a lock system, in this profile and below this prefix, and
+/// returns both.
 fn run_over<'a>(
     store: &'a mut Refusing<MemFs>,
     locks: &'a mut MemLs,
+    profile: Profile,
     prefix: String,
     requests: &[DavRequest],
 ) -> (DavResult<Replies>, &'a mut Refusing<MemFs>, &'a mut MemLs)
     ensures same_store { result.1.ghost_name ≡ store.entry.ghost_name }
     ensures same_locks { result.2.ghost_name ≡ locks.entry.ghost_name }
-    ensures run { IfOk result.0 (λ replies. RunsBelow (string_bytes prefix)
+    ensures run { IfOk result.0 (λ replies. RunsBelow profile (string_bytes prefix)
         (seen_over store.old locks.old) requests.now (map answer_of replies.items) (seen_over result.1.now result.2.now)) }
 {
-    let mut engine = DavInner::new(store, Some(locks), prefix, None, ());
+    let mut engine = DavInner::new(store, Some(locks), prefix, None, ()).with_profile(profile);
     let replies = engine.run(requests);
     let (store, locks) = engine.finish();
     (replies, store, locks.unwrap())

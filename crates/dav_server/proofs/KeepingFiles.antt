@@ -46,7 +46,7 @@ module _ (settings : Settings) (request : DavRequest) (old : State) (records : L
     leaves_keep rest (inl (opened, has)) = (has.kept (λ nothing. let no : Some (File bytes) ≡ None = sym file ∙ nothing in cc)).0
     leaves_keep rest (inr (unopened, same)) = ap (λ (c : Contents). c.tree) same
 
-    lock_work_keeps : (refresh : Bool) (found : Option Meta) (rest : List Logged) → LockWorkBy refresh request found old rest answer new → new.contents.tree ≡ old.contents.tree
+    lock_work_keeps : (refresh : Bool) (found : Option Meta) (rest : List Logged) → LockWorkBy settings.profile refresh request found old rest answer new → new.contents.tree ≡ old.contents.tree
     lock_work_keeps true found rest work = ap (λ (c : Contents). c.tree) work.same
     lock_work_keeps false found rest work =
         elim work.done [ inl grants ↦ leaves_keep rest grants.answers.leaves | inr denies ↦ ap (λ (s : State). s.contents.tree) denies.same ]

@@ -2,6 +2,8 @@
 use Rattle.std.specs.Prelude.{◌≡◌, ℕ, Bool, true, [], List, Option, Some, None, option_map, string_bytes}
 use Rattle.std.specs.Borrow.{GName}
 use Rattle.dav_resource.specs.declared.method.DavMethodSet.{DavMethodSet}
+use Rattle.dav_resource.specs.declared.profile.Profile.{Profile}
+use Rattle.dav_resource.specs.declared.profile.Profile.TheVariants.{Standard}
 use Rattle.dav_store.specs.Store.{Store}
 use Rattle.dav_store.specs.Locks.{Locks}
 use Rattle.dav_store.specs.declared.lock.DavLock.{DavLock}
@@ -21,6 +23,7 @@ use Rattle.dav_server.specs.declared.server.Server.{Server}
 pub record Rules : Type 0 where
   pub prefix : List ℕ
   pub allow : Option DavMethodSet
+  pub profile : Profile
   pub anyone_unlocks : Bool
 
 -- the store and the locks, the rules of access rights if there are some, the time (in whole seconds since 1970), and the number of the last batch
@@ -76,7 +79,12 @@ module _ {F L : Type 0} where
   -- the rules of a server
   abbrev pub rules_of : Server F L → Rules
   rules_of server =
-      record { prefix = string_bytes server.engine.prefix; allow = server.engine.allow; anyone_unlocks = server.anyone_unlocks }
+      record {
+        prefix = string_bytes server.engine.prefix;
+        allow = server.engine.allow;
+        profile = server.engine.profile;
+        anyone_unlocks = server.anyone_unlocks;
+      }
 
   -- which borrows of a store and of a lock system it has
   abbrev pub loans_of : Server F L → GName × Option GName
@@ -91,13 +99,13 @@ resumed_state store locks rights now last =
 abbrev pub first_state : Store → Locks → ServerState
 first_state store locks = resumed_state store locks None 0 0
 
--- the rules of a server whose OPTIONS may list all methods
+-- the rules of a server whose OPTIONS may list all methods, in the profile of the standards
 abbrev pub first_rules : List ℕ → Bool → Rules
-first_rules prefix anyone_unlocks = record { prefix = prefix; allow = None; anyone_unlocks = anyone_unlocks }
+first_rules prefix anyone_unlocks = record { prefix = prefix; allow = None; profile = Standard; anyone_unlocks = anyone_unlocks }
 
 -- the settings under which a request is served from here
 abbrev pub settings_at : Rules → Seen → Settings
-settings_at rules seen = record { prefix = rules.prefix; allow = rules.allow; facts = seen.store.facts }
+settings_at rules seen = record { prefix = rules.prefix; allow = rules.allow; profile = rules.profile; facts = seen.store.facts }
 
 -- the locks of a state, if there is a lock system
 abbrev pub locks_at : ServerState → Option (List DavLock)

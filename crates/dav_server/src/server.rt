@@ -11,7 +11,7 @@ use crate::requests::request_of;
 use crate::{ExpiringLocks, TimedStore};
 use dav_engine::DavInner;
 use dav_guarding::Guarding;
-use dav_resource::{Body, DavError, DavRequest, DavResult, Text};
+use dav_resource::{Body, DavError, DavRequest, DavResult, Profile, Text};
 use dav_rights::{Access, Rules};
 use dav_store::GuardedFileSystem;
 use dav_wire::{Frame, RequestFrame, WireError};
@@ -93,7 +93,9 @@ impl<'a, F: TimedStore, L: ExpiringLocks> Server<'a, F, L> {
     {
         Server {
             alloc,
-            engine: DavInner::new(store, Some(locks), options.prefix, None, ()),
+            engine: DavInner::new(store, Some(locks), options.prefix, None, ()).with_profile(
+                Profile::Standard,
+            ),
             now,
             last,
             anyone_unlocks: options.anyone_unlocks,

@@ -20,7 +20,7 @@ use Rattle.dav_resource.specs.declared.record.Outcome.TheVariants.{Granted, Refu
 use Rattle.dav_resource.specs.declared.record.Record.{Record}
 use Rattle.dav_resource.specs.declared.error.FsError.{FsError}
 use Rattle.dav_resource.specs.declared.error.FsError.TheVariants.{NotImplemented, GeneralFailure, Exists, NotFound, Forbidden, InsufficientStorage, LoopDetected, PathTooLong, TooLarge, IsRemote, Memory}
-use Rattle.dav_key.specs.Below.{put_at, is_below}
+use Rattle.dav_key.specs.Below.{put_at, is_below, IsMoved}
 use Rattle.dav_key.specs.EachLaws.{each-put_at, each-IsMoved, put_at-same}
 use Rattle.dav_store.specs.Logged.{logged_of}
 use Rattle.dav_store.specs.Store.{Node, File, Directory, Quota, Contents, Store}
@@ -29,10 +29,11 @@ use Rattle.dav_store.specs.Members.{remove_dir_bar, read_dir_bar, IsRemovedAt}
 use Rattle.dav_store.specs.Transfers.{copy_bar, rename_bar, IsCopiedTo, IsRenamedTo}
 use Rattle.dav_store.specs.PropertyCalls.{Patch, patched, some_properties, properties_at, get_prop_bar, properties_bar, get_quota_bar, IsPatchedAt, ArePropertiesAt, PatchesProps, patch_props_call}
 use Rattle.dav_tree.specs.Memory as memory
-use Rattle.dav_tree.specs.Memory.{Stored, Resources, tree_of, properties_of, contents_of, seen_of, change_at, with_bytes, with_properties, copy_of, fresh, facts_of, made, filled, without, copied, with_patches, IsRenamed}
-use Rattle.dav_tree.specs.MemoryCalls.{IsDue, YieldsOver, Yields, Gives, Records, RecordsWith, outcome_of, change_error, open_error, error_of_opening, opened, opened_from, file_error, write_error, written, copy_error, properties_error, IsPropertyList}
+use Rattle.dav_tree.specs.Memory.{Stored, Resources, tree_of, properties_of, contents_of, seen_of, change_at, with_bytes, with_properties, copy_of, fresh, facts_of, facts_by, made, filled, without, copied, with_patches, marked, added, removed, marked_by_copy, copied_into, IsRenamed, IsRenamedAndMarked}
+use Rattle.dav_tree.specs.MemoryCalls.{IsDue, YieldsOver, Yields, Gives, Records, RecordsWith, outcome_of, change_error, has_room, mark_error, member_error, error_of_copy, open_error, error_of_opening, opened, opened_from, file_error, write_error, written, copy_error, properties_error, IsPropertyList}
 use Rattle.dav_store.specs.Logged.{record_with}
 use Rattle.dav_tree.specs.Lawful.{node_in, get-tree, get-properties}
+use Rattle.dav_tree.specs.MarkingLaws.{marked-tree, marked-properties, marked-limit, marked-facts}
 
 -- ---- errors
 
@@ -93,6 +94,27 @@ lawful-change (Some b) old e row is = let same : b ≡ e = cc in lawful-row (Som
 pub change-none : (bar : Option FsError) (old : memory.Memory) → change_error bar old ≡ None → bar ≡ None
 change-none None old e = refl
 change-none (Some b) old e = absurd cc
+
+-- room for marks
+lawful_marks : (room : Bool) (e : FsError) → (if room then None else Some GeneralFailure) ≡ Some e → IsLawful None (outcome_of e) × (e ≢ Memory)
+lawful_marks true e is = absurd cc
+lawful_marks false e is = let same : GeneralFailure ≡ e = cc in subst (λ x. IsLawful None (outcome_of x) × (x ≢ Memory)) same (own_failure, λ m. absurd cc)
+
+-- an error of a call that marks directories: the one that is due without the marks, or that there is no room for them
+pub lawful-mark : (changes : ℕ) (bar error : Option FsError) (old : memory.Memory) (e : FsError) → (error ≡ None → bar ≡ None)
+    → (error ≡ Some e → IsLawful bar (outcome_of e) × (e ≢ Memory)) → mark_error changes error old ≡ Some e → IsLawful bar (outcome_of e) × (e ≢ Memory)
+lawful-mark changes bar None old e free law is = rw (free refl) (lawful_marks (has_room changes old) e is)
+lawful-mark changes bar (Some d) old e free law is = law is
+
+pub mark-none : (changes : ℕ) (error : Option FsError) (old : memory.Memory) → mark_error changes error old ≡ None → error ≡ None
+mark-none changes None old e = refl
+mark-none changes (Some d) old e = absurd cc
+
+pub lawful-member : (bar : Option FsError) (old : memory.Memory) (e : FsError) → IfSome bar IsRowError → member_error bar old ≡ Some e → IsLawful bar (outcome_of e) × (e ≢ Memory)
+lawful-member bar old e row is = lawful-mark 2 bar (change_error bar old) old e (change-none bar old) (lawful-change bar old e row) is
+
+pub member-none : (bar : Option FsError) (old : memory.Memory) → member_error bar old ≡ None → bar ≡ None
+member-none bar old e = change-none bar old (mark-none 2 (change_error bar old) old e)
 
 pub create_dir_row : (at above : Option Node) → IfSome (create_dir_bar at above) IsRowError
 create_dir_row (Some node) above = tt
@@ -279,6 +301,18 @@ makes key old new free is =
       limit = no_limit_change old new (ap (λ (m : memory.Memory). m.limit) is);
     }
 
+-- so it is where the parent is marked
+pub adds : (key : Key) (old new : memory.Memory) → create_dir_bar (get (tree_of old.resources) key) (get (tree_of old.resources) (parent key)) ≡ None → new ≡ added key Directory old
+    → IsMadeAt key (contents_of old) (contents_of new)
+adds key old new free is =
+    let between = made key Directory old in
+    let all = makes key old between free refl in
+    record {
+      tree = ap (λ (m : memory.Memory). tree_of m.resources) is ∙ marked-tree (parent key) between ∙ all.tree;
+      properties = ap (λ (m : memory.Memory). properties_of m.resources) is ∙ marked-properties (parent key) between ∙ all.properties;
+      limit = no_limit_change between new (ap (λ (m : memory.Memory). m.limit) is ∙ marked-limit (parent key) between) ∙ all.limit;
+    }
+
 -- what is kept at a key is changed, but for its properties
 pub changed-tree : (resources : Resources) (key : Key) (change : Stored → Stored) (s : Stored) → get resources key ≡ Some s → tree_of (change_at key change resources) ≡ insert (tree_of resources) key (change s).node
 changed-tree resources key change s here = ap (λ o. tree_of (put_at resources key (option_map change o))) here ∙ tree-put resources key (change s)
@@ -305,7 +339,7 @@ open_file_node options (File bytes) above e = refl
 open_file_node options Directory above e = refused options.create_new _ e
 
 pub opening-none : (options : OpenOptions) (o : Option Stored) (bar : Option FsError) (old : memory.Memory) → error_of_opening options o bar old ≡ None → bar ≡ None
-opening-none options None bar old e = change-none bar old e
+opening-none options None bar old e = member-none bar old e
 opening-none options (Some s) bar old e = none_either options.truncate bar old e
 
 either_law : (t : Bool) (bar : Option FsError) (old : memory.Memory) (e : FsError) → IfSome bar IsRowError → (if t then change_error bar old else bar) ≡ Some e → IsLawful bar (outcome_of e) × (e ≢ Memory)
@@ -314,12 +348,12 @@ either_law false None old e row is = absurd cc
 either_law false (Some b) old e row is = lawful-change (Some b) old e row is
 
 pub opening-law : (options : OpenOptions) (o : Option Stored) (bar : Option FsError) (old : memory.Memory) (e : FsError) → IfSome bar IsRowError → error_of_opening options o bar old ≡ Some e → IsLawful bar (outcome_of e) × (e ≢ Memory)
-opening-law options None bar old e row is = lawful-change bar old e row is
+opening-law options None bar old e row is = lawful-member bar old e row is
 opening-law options (Some s) bar old e row is = either_law options.truncate bar old e row is
 
 tree-opened : (options : OpenOptions) (key : Key) (old : memory.Memory) (above : Option Node) (o : Option Stored) → get old.resources key ≡ o → open_bar options (option_map node_in o) above ≡ None
     → tree_of (opened_from options key o old).resources ≡ insert (tree_of old.resources) key (File (if options.truncate then [] else bytes_at (option_map node_in o)))
-tree-opened options key old above None here free = tree-put old.resources key _ ∙ ap (λ b. insert (tree_of old.resources) key (File b)) (sym (empty_either options.truncate))
+tree-opened options key old above None here free = marked-tree (parent key) (made key (File []) old) ∙ tree-put old.resources key _ ∙ ap (λ b. insert (tree_of old.resources) key (File b)) (sym (empty_either options.truncate))
 tree-opened options key old above (Some s) here free =
     elim options.truncate as (λ t. tree_of (if t then filled key [] old else old).resources ≡ insert (tree_of old.resources) key (File (if t then [] else bytes_at (Some s.node)))) [
       | true ↦ changed-tree old.resources key (with_bytes [] (old.version + 1) old.moment) s here
@@ -327,7 +361,7 @@ tree-opened options key old above (Some s) here free =
     ]
 
 properties-opened : (options : OpenOptions) (key : Key) (old : memory.Memory) (o : Option Stored) → get old.resources key ≡ o → properties_of (opened_from options key o old).resources ≡ properties_of old.resources
-properties-opened options key old None here = unchanged old.resources key (File []) (old.version + 1) old.moment here
+properties-opened options key old None here = marked-properties (parent key) (made key (File []) old) ∙ unchanged old.resources key (File []) (old.version + 1) old.moment here
 properties-opened options key old (Some s) here =
     elim options.truncate as (λ t. properties_of (if t then filled key [] old else old).resources ≡ properties_of old.resources) [
       | true ↦ changed-properties old.resources key (with_bytes [] (old.version + 1) old.moment) s here refl
@@ -335,11 +369,11 @@ properties-opened options key old (Some s) here =
     ]
 
 pub facts-opened : (options : OpenOptions) (key : Key) (old : memory.Memory) (o : Option Stored) → facts_of (opened_from options key o old) ≡ facts_of old
-facts-opened options key old None = refl
+facts-opened options key old None = marked-facts (parent key) (made key (File []) old)
 facts-opened options key old (Some s) = elim options.truncate as (λ t. facts_of (if t then filled key [] old else old) ≡ facts_of old) [ true ↦ refl | false ↦ refl ]
 
 limit-opened : (options : OpenOptions) (key : Key) (old : memory.Memory) (o : Option Stored) → (opened_from options key o old).limit ≡ old.limit
-limit-opened options key old None = refl
+limit-opened options key old None = marked-limit (parent key) (made key (File []) old)
 limit-opened options key old (Some s) = elim options.truncate as (λ t. (if t then filled key [] old else old).limit ≡ old.limit) [ true ↦ refl | false ↦ refl ]
 
 pub opens : (path : PathValue) (options : OpenOptions) (file : DavFile) (old new : memory.Memory) → file ≡ record { path = path; pos = 0; append = options.append }
@@ -373,6 +407,17 @@ removes key old new is = record {
   limit = no_limit_change old new (ap (λ (m : memory.Memory). m.limit) is);
 }
 
+-- so it is where the parent is marked
+pub takes : (key : Key) (old new : memory.Memory) → new ≡ removed key old → IsRemovedAt key (contents_of old) (contents_of new)
+takes key old new is =
+    let between = without key old in
+    let all = removes key old between refl in
+    record {
+      tree = ap (λ (m : memory.Memory). tree_of m.resources) is ∙ marked-tree (parent key) between ∙ all.tree;
+      properties = ap (λ (m : memory.Memory). properties_of m.resources) is ∙ marked-properties (parent key) between ∙ all.properties;
+      limit = no_limit_change between new (ap (λ (m : memory.Memory). m.limit) is ∙ marked-limit (parent key) between) ∙ all.limit;
+    }
+
 -- a source and a place that let a file be copied
 copied_file : (source there above : Option Node) → copy_bar source there above ≡ None → source ≡ Some (File (bytes_at source))
 copied_file None there above e = absurd cc
@@ -385,9 +430,25 @@ source_kept : (o : Option Stored) (bytes : List ℕ) → option_map node_in o �
 source_kept None bytes e = absurd cc
 source_kept (Some s) bytes e = (s, refl, cc)
 
+pub copying-none : (there : Option Stored) (bar : Option FsError) (old : memory.Memory) → error_of_copy there bar old ≡ None → bar ≡ None
+copying-none None bar old e = member-none bar old e
+copying-none (Some s) bar old e = change-none bar old e
+
+pub copying-law : (there : Option Stored) (bar : Option FsError) (old : memory.Memory) (e : FsError) → IfSome bar IsRowError → error_of_copy there bar old ≡ Some e → IsLawful bar (outcome_of e) × (e ≢ Memory)
+copying-law None bar old e row is = lawful-member bar old e row is
+copying-law (Some s) bar old e row is = lawful-change bar old e row is
+
+-- what holds where the parent is marked, and where it is not
+by-copy : (P : memory.Memory → Type 0) (there : Option Stored) (to : Key) (old : memory.Memory) → P (marked (parent to) old) → P old → P (marked_by_copy there to old)
+by-copy P None to old marks stays = marks
+by-copy P (Some s) to old marks stays = stays
+
+pub facts-copied : (from to : Key) (old : memory.Memory) → facts_of (copied_into from to old) ≡ facts_of old
+facts-copied from to old = by-copy (λ m. facts_of m ≡ facts_of old) (get old.resources to) to (copied from to old) (marked-facts (parent to) (copied from to old)) refl
+
 pub copies : (from to : Key) (old new : memory.Memory) → copy_error from to old ≡ None → new ≡ copied from to old → IsCopiedTo from to (contents_of old) (contents_of new)
 copies from to old new none is =
-    let file = copied_file (get (tree_of old.resources) from) (get (tree_of old.resources) to) (get (tree_of old.resources) (parent to)) (change-none _ old none) in
+    let file = copied_file (get (tree_of old.resources) from) (get (tree_of old.resources) to) (get (tree_of old.resources) (parent to)) (copying-none (get old.resources to) _ old none) in
     let (s, here, node) = source_kept (get old.resources from) _ (sym (get-tree old.resources from) ∙ file) in
     let copy = copy_of (get old.resources to) (old.version + 1) old.moment s in
     record {
@@ -401,12 +462,41 @@ copies from to old new none is =
       limit = no_limit_change old new (ap (λ (m : memory.Memory). m.limit) is);
     }
 
+-- so it is where the parent is marked
+pub copies-into : (from to : Key) (old new : memory.Memory) → copy_error from to old ≡ None → new ≡ copied_into from to old → IsCopiedTo from to (contents_of old) (contents_of new)
+copies-into from to old new none is =
+    let between = copied from to old in
+    let all = copies from to old between none refl in
+    subst (λ (m : memory.Memory). IsCopiedTo from to (contents_of old) (contents_of m)) (sym is) (by-copy (λ m. IsCopiedTo from to (contents_of old) (contents_of m)) (get old.resources to) to between (record {
+      tree = marked-tree (parent to) between ∙ all.tree;
+      properties = marked-properties (parent to) between ∙ all.properties;
+      limit = no_limit_change between (marked (parent to) between) (marked-limit (parent to) between) ∙ all.limit;
+    }) all)
+
 pub renames : (from to : Key) (old new : memory.Memory) → IsRenamed from to old new → IsRenamedTo from to (contents_of old) (contents_of new)
 renames from to old new r = record {
   tree = each-IsMoved (λ s. Some s.node) from to old.resources new.resources r.resources;
   properties = each-IsMoved (λ s. some_properties s.properties) from to old.resources new.resources r.resources;
   limit = no_limit_change old new r.limit;
 }
+
+-- so it is where a directory is marked
+renamed_marked : (from to key : Key) (old new : memory.Memory) → IsRenamedTo from to (contents_of old) (contents_of new) → IsRenamedTo from to (contents_of old) (contents_of (marked key new))
+renamed_marked from to key old new all = record {
+  tree = subst (IsMoved from to (tree_of old.resources)) (sym (marked-tree key new)) all.tree;
+  properties = subst (IsMoved from to (properties_of old.resources)) (sym (marked-properties key new)) all.properties;
+  limit = no_limit_change new (marked key new) (marked-limit key new) ∙ all.limit;
+}
+
+pub renames-marked : (from to : Key) (old new : memory.Memory) → IsRenamedAndMarked from to old new → IsRenamedTo from to (contents_of old) (contents_of new)
+renames-marked from to old new r =
+    let left = marked (parent from) r.between in
+    subst (λ (m : memory.Memory). IsRenamedTo from to (contents_of old) (contents_of m)) (sym r.becomes)
+    (renamed_marked from to (parent to) old left (renamed_marked from to (parent from) old r.between (renames from to old r.between r.renamed)))
+
+pub facts-renamed : (from to : Key) (old new : memory.Memory) → IsRenamedAndMarked from to old new → facts_of new ≡ facts_of old
+facts-renamed from to old new r =
+    ap facts_of r.becomes ∙ marked-facts (parent to) (marked (parent from) r.between) ∙ marked-facts (parent from) r.between ∙ (λ i. facts_by (r.renamed.tag_part i) (r.renamed.held i))
 
 -- ---- properties
 

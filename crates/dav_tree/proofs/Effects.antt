@@ -70,25 +70,26 @@ fits false pos size place len is small room short = let below = room refl in ome
 
 -- ---- what is kept, in memory
 
-abbrev pub memory_by : Kept → ℕ → ℕ → Option (Option ℕ) → Option ℕ → Memory
-memory_by kept version moment limit part = record { resources = kept.resources; version = version; moment = moment; limit = limit; tag_part = part; held = held_of kept }
+abbrev pub memory_by : Kept → ℕ → ℕ → Option (Option ℕ) → Option ℕ → Bool → Memory
+memory_by kept version moment limit part marks =
+    record { resources = kept.resources; version = version; moment = moment; limit = limit; tag_part = part; marks = marks; held = held_of kept }
 
-module _ (version moment : ℕ) (limit : Option (Option ℕ)) (part : Option ℕ) where
+module _ (version moment : ℕ) (limit : Option (Option ℕ)) (part : Option ℕ) (marks : Bool) where
   -- nothing has changed
-  pub memory-same : (e0 e1 : Kept) → e1 ≡ e0 → memory_by e1 version moment limit part ≡ memory_by e0 version moment limit part
-  memory-same e0 e1 same = ap (λ (k : Kept). memory_by k version moment limit part) same
+  pub memory-same : (e0 e1 : Kept) → e1 ≡ e0 → memory_by e1 version moment limit part marks ≡ memory_by e0 version moment limit part marks
+  memory-same e0 e1 same = ap (λ (k : Kept). memory_by k version moment limit part marks) same
 
-  pub memory-has : (e : Kept) (resources : Resources) (held : Held) → Has resources held e → memory_by e version moment limit part ≡ record { resources = resources; version = version; moment = moment; limit = limit; tag_part = part; held = held }
-  memory-has e resources held has = λ i. record { resources = has.resources_are i; version = version; moment = moment; limit = limit; tag_part = part; held = has.held_are i }
+  pub memory-has : (e : Kept) (resources : Resources) (held : Held) → Has resources held e → memory_by e version moment limit part marks ≡ record { resources = resources; version = version; moment = moment; limit = limit; tag_part = part; marks = marks; held = held }
+  memory-has e resources held has = λ i. record { resources = has.resources_are i; version = version; moment = moment; limit = limit; tag_part = part; marks = marks; held = has.held_are i }
 
   -- after a lookup, and a change of the resources
   pub memory-changed : (e0 e1 e2 : Kept) (change : Resources → Resources) → e1 ≡ e0 → Has (change e1.resources) (held_of e1) e2
-      → memory_by e2 version moment limit part ≡ record { resources = change e0.resources; version = version; moment = moment; limit = limit; tag_part = part; held = held_of e0 }
+      → memory_by e2 version moment limit part marks ≡ record { resources = change e0.resources; version = version; moment = moment; limit = limit; tag_part = part; marks = marks; held = held_of e0 }
   memory-changed e0 e1 e2 change same has = memory-has e2 (change e1.resources) (held_of e1) has
-      ∙ ap (λ (k : Kept). record { resources = change k.resources; version = version; moment = moment; limit = limit; tag_part = part; held = held_of k }) same
+      ∙ ap (λ (k : Kept). record { resources = change k.resources; version = version; moment = moment; limit = limit; tag_part = part; marks = marks; held = held_of k }) same
 
   -- after a lookup, and a call that has changed nothing
-  pub memory-unchanged : (e0 e1 e2 : Kept) → e1 ≡ e0 → Has e1.resources (held_of e1) e2 → memory_by e2 version moment limit part ≡ memory_by e0 version moment limit part
+  pub memory-unchanged : (e0 e1 e2 : Kept) → e1 ≡ e0 → Has e1.resources (held_of e1) e2 → memory_by e2 version moment limit part marks ≡ memory_by e0 version moment limit part marks
   memory-unchanged e0 e1 e2 same has = memory-changed e0 e1 e2 (λ resources. resources) same has
 
 pub has-same : (e1 e2 : Kept) → e2 ≡ e1 → Has e1.resources (held_of e1) e2

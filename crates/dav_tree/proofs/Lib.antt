@@ -7,6 +7,7 @@ pub mod Modifying
 pub mod MemoryListings
 pub mod Rows
 pub mod Sound
+pub mod Marking
 pub mod WrittenBytes
 pub mod Keeping
 pub mod Sums

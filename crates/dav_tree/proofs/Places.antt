@@ -1,6 +1,6 @@
 -- What lookups say of what is kept.
 use Rattle.std.proofs.Common.{◌≡◌, ◌≢◌, ◌∙◌, ℕ, Bool, true, false, List, [], ◌∷◌, ◌++◌, not, Option, Some, None, refl, sym, ap, subst, is_some}
-use Rattle.std.specs.Prelude.{IsSome, IsTrue}
+use Rattle.std.specs.Prelude.{IsSome}
 use Rattle.std.specs.FinMap.{get}
 use Rattle.dav_key.specs.Key.{Key, parent}
 use Rattle.dav_store.specs.Store.{File, Directory}
@@ -8,11 +8,11 @@ use Rattle.dav_store.specs.Calls.{bytes_at}
 use Rattle.dav_store.specs.Members.{members}
 use Rattle.dav_tree.specs.Memory.{Stored, Resources, tree_of, is_directory, IsSound}
 use Rattle.dav_tree.specs.Lawful.{get-tree}
-use Rattle.dav_tree.specs.Found.{Finds, IsDirectoryFound, directory_in}
+use Rattle.dav_tree.specs.Found.{Finds, IsDirectoryAt, directory_in}
 use Rattle.dav_tree.specs.Kept.{Kept, IsAt, IsNumber, IsFileNumber, IsAbsent, IsFound}
 use Rattle.dav_tree.specs.declared.entries.Place.{Place}
 use Rattle.dav_tree.proofs.Answering.{nothing_kept}
-use Rattle.dav_tree.proofs.Rows.{node_at, file_at, directory_at, decides_directory, missing_no_directory}
+use Rattle.dav_tree.proofs.Rows.{file_at, directory_at, missing_no_directory}
 use Rattle.dav_tree.proofs.Sound.{file_alone, alone_from}
 
 -- ---- after a lookup everything is as it was
@@ -49,12 +49,18 @@ module _ (e0 e1 : Kept) (same : e1 ≡ e0) (key at : Key) (is : at ≡ key) wher
     numbered = (λ i. get (same i).numbers (sym is i)) ∙ there.numbered;
   }
 
-  pub directory-above : (found : Bool) → IsDirectoryFound e1 (parent at) found → IsTrue found → get (tree_of e0.resources) (parent key) ≡ Some Directory
-  directory-above found f t = sym (λ i. get (tree_of (same i).resources) (parent (is i))) ∙ f.decides.0 t
+  pub directory-above : (number : ℕ) → IsDirectoryAt e1 (parent at) number → get (tree_of e0.resources) (parent key) ≡ Some Directory
+  directory-above number found = sym (λ i. get (tree_of (same i).resources) (parent (is i))) ∙ found.directory
 
-  pub no-directory-above : (found : Bool) → IsDirectoryFound e1 (parent at) found → found ≡ false → get (tree_of e0.resources) (parent key) ≢ Some Directory
-  no-directory-above found f none there =
-      let clash : true ≡ false = sym (f.decides.1 ((λ i. get (tree_of (same i).resources) (parent (is i))) ∙ there)) ∙ none in cc
+  pub number-above : (number : ℕ) → IsDirectoryAt e1 (parent at) number → get e1.numbers (parent key) ≡ Some number
+  number-above number found = ap (λ k. get e1.numbers (parent k)) (sym is) ∙ found.numbered
+
+  pub no-directory-above : get (tree_of e1.resources) (parent at) ≢ Some Directory → get (tree_of e0.resources) (parent key) ≢ Some Directory
+  no-directory-above none there = none ((λ i. get (tree_of (same i).resources) (parent (is i))) ∙ there)
+
+  pub finds-some : (found : Option Place) → Finds e1 at found → is_some (get e0.resources key) ≡ is_some found
+  finds-some None f = ap is_some (sym (λ i. get (same i).resources (is i)) ∙ f.missing)
+  finds-some (Some place) f = ap is_some (sym (λ i. get (same i).resources (is i)) ∙ f.at.there)
 
   pub directory-key : (found : Option Place) → Finds e1 at found → directory_in found ≡ true → get (tree_of e0.resources) key ≡ Some Directory
   directory-key None f d = absurd cc
@@ -79,19 +85,17 @@ module _ (e : Kept) (key : Key) where
   pub some-number : (number : ℕ) → get e.numbers key ≡ Some number → IsSome (get e.numbers key)
   some-number number is = subst (λ (o : Option ℕ). IsSome o) (sym is) refl
 
-  -- a directory is found, or not
-  pub directory-found : (number : ℕ) (directory : Bool) → IsFound e key number directory → IsDirectoryFound e key directory
-  directory-found number directory found = record {
-    decides = subst (λ b. (IsTrue b → get (tree_of e.resources) key ≡ Some Directory) × (get (tree_of e.resources) key ≡ Some Directory → IsTrue b)) (sym found.kind)
-        (subst (λ o. (IsTrue (is_directory found.stored.node) → o ≡ Some Directory) × (o ≡ Some Directory → IsTrue (is_directory found.stored.node))) (sym (node_at e.resources key (Some found.stored) found.at.there)) (decides_directory found.stored.node));
-    numbered = λ _. some-number number found.at.numbered;
-  }
+  -- the place of a directory, or of nothing else
+  pub directory-at : (number : ℕ) (directory : Bool) → IsFound e key number directory → directory ≡ true → IsDirectoryAt e key number
+  directory-at number directory found is =
+      record { directory = directory_at e.resources key found.stored found.at.there (sym found.kind ∙ is); numbered = found.at.numbered }
 
-  pub no-directory-found : IsAbsent e key → IsDirectoryFound e key false
-  no-directory-found absent = record {
-    decides = (λ t. absurd cc, λ there. absurd (missing_no_directory e.resources key absent.missing there));
-    numbered = λ t. absurd cc;
-  }
+  pub no-directory-at : (number : ℕ) (directory : Bool) → IsFound e key number directory → directory ≡ false → get (tree_of e.resources) key ≢ Some Directory
+  no-directory-at number directory found is there =
+      let clash : Some (File (bytes_at (Some found.stored.node))) ≡ Some Directory = sym (file_at e.resources key found.stored found.at.there (sym found.kind ∙ is)) ∙ there in cc
+
+  pub nothing-at : IsAbsent e key → get (tree_of e.resources) key ≢ Some Directory
+  nothing-at absent = missing_no_directory e.resources key absent.missing
 
 -- ---- files and their members
 

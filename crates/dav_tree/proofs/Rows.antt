@@ -1,6 +1,6 @@
 -- What the rows say of what is kept.
 use Rattle.std.proofs.lemmas.Bool.Decides.{nat_tests}
-use Rattle.std.proofs.Common.{◌≢◌, not, ◌==◌, arith, ◌≡◌, ◌∙◌, ℕ, Bool, true, false, Option, Some, None, Result, Ok, Err, refl, sym, ap, inl, inr, IsTrue, List, [], ◌∷◌, ◌+◌, length, ◌||◌, if◌then◌else◌}
+use Rattle.std.proofs.Common.{◌≢◌, not, ◌==◌, arith, ◌≡◌, ◌∙◌, ℕ, Bool, true, false, Option, Some, None, Result, Ok, Err, refl, sym, ap, inl, inr, List, [], ◌∷◌, ◌+◌, length, ◌||◌, if◌then◌else◌}
 use Rattle.std.specs.Option.{option_map, option_copied, is_some}
 use Rattle.std.specs.Result.{IsErrAnd}
 use Rattle.std.proofs.lemmas.Result.{err_from_is_err_and}
@@ -13,20 +13,13 @@ use Rattle.std.specs.Prelude.{IfErr, OnOk}
 use Rattle.dav_resource.specs.declared.error.FsError.{FsError}
 use Rattle.dav_resource.specs.declared.error.FsError.TheVariants as errors
 use Rattle.dav_store.specs.Store.{Node, File, Directory}
-use Rattle.dav_tree.specs.Memory.{Stored, Resources, Memory, tree_of, made_when, copy_of, copied, made, filled, is_directory, size_of, fresh, with_bytes, change_at, contents_of}
-use Rattle.dav_tree.specs.MemoryCalls.{Yields, Gives, change_error, create_dir_error, open_error, error_of_opening, opened, opened_from}
+use Rattle.dav_tree.specs.Memory.{Stored, Resources, Memory, tree_of, made_when, copy_of, copied, made, filled, marked, marked_by_copy, is_directory, size_of, fresh, with_bytes, change_at, contents_of}
+use Rattle.dav_tree.specs.MemoryCalls.{Yields, Gives, change_error, member_error, error_of_copy, create_dir_error, open_error, error_of_opening, opened, opened_from}
 use Rattle.dav_tree.specs.Lawful.{node_in, get-tree}
 use Rattle.dav_store.specs.Calls.{create_dir_bar, open_bar, file_bar, bytes_at, place_of}
 use Rattle.dav_key.specs.Below.{is_below, put_at}
 use Rattle.dav_store.specs.Members.{members, remove_dir_bar}
 use Rattle.dav_store.specs.Transfers.{copy_bar, rename_bar}
-
-pub decides_directory : (node : Node) → (IsTrue (is_directory node) → Some node ≡ Some Directory) × (Some node ≡ Some Directory → IsTrue (is_directory node))
-decides_directory (File bytes) = (λ e. absurd cc, λ e. absurd cc)
-decides_directory Directory = (λ e. refl, λ e. refl)
-
-pub no_directory : (IsTrue false → None ≡ Some Directory) × (None ≡ Some Directory → IsTrue false)
-no_directory = (λ e. absurd cc, λ e. absurd cc)
 
 -- ---- answers
 
@@ -79,7 +72,7 @@ bar_taken None above e = absurd cc
 bar_taken (Some s) above e = refl
 
 pub dir_taken : (old : Memory) (key : Key) (found : Option (Bor Stored)) → option_copied found ≡ get old.resources key → is_some found ≡ true → create_dir_error key old ≡ Some errors.Exists
-dir_taken old key found is some = ap (λ b. change_error b old) (ap (λ n. create_dir_bar n (get (tree_of old.resources) (parent key))) (get-tree old.resources key)
+dir_taken old key found is some = ap (λ b. member_error b old) (ap (λ n. create_dir_bar n (get (tree_of old.resources) (parent key))) (get-tree old.resources key)
     ∙ bar_taken (get old.resources key) (get (tree_of old.resources) (parent key)) (ap is_some (sym is) ∙ some_copied found ∙ some))
 
 none_from : (o : Option Stored) → is_some o ≡ false → o ≡ None
@@ -89,8 +82,8 @@ none_from (Some s) e = absurd cc
 pub none_found : (resources : Resources) (key : Key) (found : Option (Bor Stored)) → option_copied found ≡ get resources key → is_some found ≡ false → get resources key ≡ None
 none_found resources key found is none = none_from (get resources key) (ap is_some (sym is) ∙ some_copied found ∙ none)
 
-pub dir_free : (old : Memory) (key : Key) → get old.resources key ≡ None → get (tree_of old.resources) (parent key) ≡ Some Directory → create_dir_error key old ≡ change_error None old
-dir_free old key none above = λ i. change_error (create_dir_bar ((get-tree old.resources key ∙ ap (option_map node_in) none) i) (above i)) old
+pub dir_free : (old : Memory) (key : Key) → get old.resources key ≡ None → get (tree_of old.resources) (parent key) ≡ Some Directory → create_dir_error key old ≡ member_error None old
+dir_free old key none above = λ i. member_error (create_dir_bar ((get-tree old.resources key ∙ ap (option_map node_in) none) i) (above i)) old
 
 -- ---- open
 
@@ -128,8 +121,16 @@ pub open_there : (options : OpenOptions) (key : Key) (old : Memory) (s : Stored)
 open_there options key old s here e d = open_error-at options key old (Some s) here ∙ old_file options s.node s _ old e d
 
 pub open_missing : (options : OpenOptions) (key : Key) (old : Memory) → get old.resources key ≡ None → get (tree_of old.resources) (parent key) ≡ Some Directory
-    → open_error options key old ≡ change_error (if options.create || options.create_new then None else Some errors.NotFound) old
-open_missing options key old none above = open_error-at options key old None none ∙ ap (λ n. change_error (open_bar options None n) old) above
+    → open_error options key old ≡ member_error (if options.create || options.create_new then None else Some errors.NotFound) old
+open_missing options key old none above = open_error-at options key old None none ∙ ap (λ n. member_error (open_bar options None n) old) above
+
+no_open : (options : OpenOptions) (above : Option Node) → above ≢ Some Directory → open_bar options None above ≡ Some errors.NotFound
+no_open options None h = refl
+no_open options (Some (File bytes)) h = refl
+no_open options (Some Directory) h = absurd (h refl)
+
+pub open_nowhere : (options : OpenOptions) (key : Key) (old : Memory) → get old.resources key ≡ None → get (tree_of old.resources) (parent key) ≢ Some Directory → open_error options key old ≡ Some errors.NotFound
+open_nowhere options key old none above = open_error-at options key old None none ∙ ap (λ b. member_error b old) (no_open options _ above)
 
 -- ---- open files
 
@@ -265,6 +266,20 @@ file_onto bytes (Some Directory) h = absurd (h refl)
 
 pub copy_free : (resources : Resources) (from to : Key) (s : Stored) → get resources from ≡ Some s → is_directory s.node ≡ false → get (tree_of resources) to ≢ Some Directory → get (tree_of resources) (parent to) ≡ Some Directory → copy_bar (get (tree_of resources) from) (get (tree_of resources) to) (get (tree_of resources) (parent to)) ≡ None
 copy_free resources from to s here d there above = (λ i. copy_bar (file_at resources from s here d i) (get (tree_of resources) to) (above i)) ∙ file_onto (bytes_at (Some s.node)) _ there
+
+-- an error that bars a copy is due whatever is at the other key
+pub copy-due : (there : Option Stored) (e : FsError) (old : Memory) → error_of_copy there (Some e) old ≡ Some e
+copy-due None e old = refl
+copy-due (Some s) e old = refl
+
+-- a copy over what is there, and to where nothing was
+pub copy-over : (there : Option Stored) (to : Key) (old : Memory) → is_some there ≡ true → marked_by_copy there to old ≡ old
+copy-over None to old some = absurd cc
+copy-over (Some s) to old some = refl
+
+pub copy-new : (there : Option Stored) (to : Key) (old : Memory) → is_some there ≡ false → marked_by_copy there to old ≡ marked (parent to) old
+copy-new None to old none = refl
+copy-new (Some s) to old none = absurd cc
 
 -- ---- rename
 

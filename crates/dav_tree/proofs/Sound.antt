@@ -263,7 +263,7 @@ higher above (first ∷ key) e =
     let (below, at) = at_or_below-tail above (parent (first ∷ key)) e in
     ap (λ k. is_at_or_below k above) (is ∙ ap (λ k. k ++ name ∷ []) at ∙ append_assoc above below (name ∷ [])) ∙ at_or_below-append above (below ++ name ∷ [])
 
-lower : (above key : Key) → is_at_or_below key above ≡ false → is_at_or_below (parent key) above ≡ false
+pub lower : (above key : Key) → is_at_or_below key above ≡ false → is_at_or_below (parent key) above ≡ false
 lower above key e = not_true _ (λ t. (let clash : true ≡ false = sym (higher above key t) ∙ e in cc))
 
 root_outside : (key : Key) → key ≢ [] → is_at_or_below [] key ≡ false
@@ -271,7 +271,7 @@ root_outside [] h = absurd (h refl)
 root_outside (segment ∷ key) h = refl
 
 -- a key isn't its own parent's, but for the root
-shorter_outside : (key : Key) → key ≢ [] → is_at_or_below (parent key) key ≡ false
+pub shorter_outside : (key : Key) → key ≢ [] → is_at_or_below (parent key) key ≡ false
 shorter_outside [] h = absurd (h refl)
 shorter_outside (first ∷ key) h = not_true _ (λ t.
     let (below, is) = at_or_below-tail (first ∷ key) (parent (first ∷ key)) t in
@@ -293,6 +293,10 @@ pub apart-from : (old : Resources) (from to : Key) → IsSound old → get (tree
 apart-from old from to sound none some = not_true _ (λ t.
     let (below, is) = at_or_below-tail to from t in
     some (ap (get (tree_of old)) is ∙ nothing_below old to sound none below))
+
+-- where nothing stands is not the root
+pub new-below : (old : Resources) (to : Key) → IsSound old → get (tree_of old) to ≡ None → to ≢ []
+new-below old to sound none is = (let clash : Some Directory ≡ None = sym sound.root ∙ ap (get (tree_of old)) (sym is) ∙ none in cc)
 
 moved-tree : (from to : Key) (old new : Resources) → IsMoved from to old new → IsMoved from to (tree_of old) (tree_of new)
 moved-tree from to old new m = each-IsMoved (λ s. Some s.node) from to old new m

@@ -28,21 +28,21 @@ own_start : (held : Held) (e : FsError) → (e ≡ errors.Memory) ⊎ (start_err
 own_start held e (inl memory) = inl memory
 own_start held e (inr due) = inr (no_number (held.next == 18446744073709551615) e due)
 
-module _ (version moment : ℕ) (limit : Option (Option ℕ)) (part : Option ℕ) (log : List Logged) (e0 e1 : Kept) where
+module _ (version moment : ℕ) (limit : Option (Option ℕ)) (part : Option ℕ) (marks : Bool) (log : List Logged) (e0 e1 : Kept) where
   abbrev seen_by : Kept → Store
-  seen_by kept = seen_of (memory_by kept version moment limit part) log
+  seen_by kept = seen_of (memory_by kept version moment limit part marks) log
 
   pub starts-body : (answer : Result ℕ FsError) → IfOk answer (λ number. number ≡ e0.next) → (held_of e0).bodies e0.next ≡ None → OnOk answer (Has e0.resources (begun (held_of e0)) e1)
       → OnErr answer (Has e0.resources (held_of e0) e1) → IfErr answer (λ e. (e ≡ errors.Memory) ⊎ (start_error (held_of e0) ≡ Some e)) → StartsBody (seen_by e0) answer (seen_by e1)
   starts-body (Ok number) is free has same due = record {
     started = record {
       free = ap (held_of e0).bodies is ∙ free;
-      begun = ap (λ m. seen_of m log) (memory-has version moment limit part e1 e0.resources (begun (held_of e0)) has) ∙ ap (λ n. with_body (seen_by e0) n (Some [])) (sym is);
+      begun = ap (λ m. seen_of m log) (memory-has version moment limit part marks e1 e0.resources (begun (held_of e0)) has) ∙ ap (λ n. with_body (seen_by e0) n (Some [])) (sym is);
     };
     refused = tt;
   }
   starts-body (Err e) is free has same due =
-      record { started = tt; refused = (ap (λ m. seen_of m log) (memory-has version moment limit part e1 e0.resources (held_of e0) same), own_start (held_of e0) e due) }
+      record { started = tt; refused = (ap (λ m. seen_of m log) (memory-has version moment limit part marks e1 e0.resources (held_of e0) same), own_start (held_of e0) e due) }
 
 -- there is no body at the next number
 pub next-free : {B : Type 0} (bytes : B → List ℕ) (rest : Rest) (tree : Tree (Entry B)) (bodies : BTreeMap ℕ B) (next : ℕ) (past : Gv) (kept : Kept) → kept_by bytes rest tree bodies next past ≡ kept

@@ -1,5 +1,5 @@
 -- What lookups find among what is kept: this project's own choice.
-use Rattle.std.specs.Prelude.{◌≡◌, ◌↔◌, ℕ, Bool, false, IsTrue, IsSome, Option, Some, None, MatchOption}
+use Rattle.std.specs.Prelude.{◌≡◌, ◌≢◌, ℕ, Bool, false, Option, Some, None, MatchOption}
 use Rattle.std.specs.FinMap.{get}
 use Rattle.dav_key.specs.Key.{Key}
 use Rattle.dav_store.specs.Store.{Directory}
@@ -17,10 +17,14 @@ pub record IsFileFound (kept : Kept) (key : Key) (number : ℕ) : Type 0 where
   pub at : IsAt kept key number stored
   pub file : is_directory stored.node ≡ false
 
--- it is a directory that is at a key, and then it has a number
-pub record IsDirectoryFound (kept : Kept) (key : Key) (found : Bool) : Type 0 where
-  pub decides : IsTrue found ↔ (get (tree_of kept.resources) key ≡ Some Directory)
-  pub numbered : IsTrue found → IsSome (get kept.numbers key)
+-- there is a directory at a key, under this number
+pub record IsDirectoryAt (kept : Kept) (key : Key) (number : ℕ) : Type 0 where
+  pub directory : get (tree_of kept.resources) key ≡ Some Directory
+  pub numbered : get kept.numbers key ≡ Some number
+
+-- a lookup finds the number of the directory at a key, or there is no directory
+abbrev pub FindsDirectory : Kept → Key → Option ℕ → Type 0
+FindsDirectory kept key found = MatchOption found (get (tree_of kept.resources) key ≢ Some Directory) (IsDirectoryAt kept key)
 
 -- the place is a directory's
 abbrev pub directory_in : Option Place → Bool

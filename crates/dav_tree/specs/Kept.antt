@@ -1,5 +1,5 @@
 -- What contracts see of the resources and bodies of a store: this project's own choice.
-use Rattle.std.specs.Prelude.{◌≡◌, ℕ, ◌≤◌, Bool, true, false, List, [], map, Option, Some, None}
+use Rattle.std.specs.Prelude.{◌≡◌, ◌≢◌, ℕ, ◌≤◌, Bool, true, false, List, [], map, Option, Some, None}
 use Rattle.std.specs.Option.{ForSome}
 use Rattle.std.specs.Ordering.{nat_cmp}
 use Rattle.std.specs.FinMap.{FinMap, empty, from_entries, get, insert}
@@ -121,6 +121,14 @@ pub record IsFound (kept : Kept) (key : Key) (number : ℕ) (directory : Bool) :
 pub record Has (resources : Resources) (held : Held) (kept : Kept) : Type 0 where
   pub resources_are : kept.resources ≡ resources
   pub held_are : held_of kept ≡ held
+
+-- each key with a number keeps it
+abbrev pub KeepsNumbers : Kept → Kept → Type 0
+KeepsNumbers old new = (key : Key) (number : ℕ) → get old.numbers key ≡ Some number → get new.numbers key ≡ Some number
+
+-- so does each key but one
+abbrev pub KeepsOtherNumbers : Key → Kept → Kept → Type 0
+KeepsOtherNumbers key old new = (other : Key) (number : ℕ) → other ≢ key → get old.numbers other ≡ Some number → get new.numbers other ≡ Some number
 
 -- what was at and below the one key is now at and below the other, and the bodies are as before
 pub record HasMoved (from to : Key) (old new : Kept) : Type 0 where

@@ -10,6 +10,8 @@ pub mod Dump
 pub mod KeyProps
 pub mod Lawful
 pub mod TagLaws
+pub mod MarkingLaws
+pub mod MemberLaws
 pub mod Entry
 pub mod Kept
 pub mod KeptCode

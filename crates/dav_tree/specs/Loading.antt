@@ -35,10 +35,10 @@ module _ {B : Type 0} (body : Coded B) (bytes : B → List ℕ) (tree : Tree (En
   abbrev pub loaded_held : Held
   loaded_held = record none_held { before = saved_code (entries_code body tree) (resources_by bytes tree) }
 
-  -- the resources of this tree, with this number of changes and this quota, and no part of the entity tags
+  -- the resources of this tree, with this number of changes and this quota, and no part of the entity tags; no directory is marked
   abbrev pub loaded_memory : ℕ → Option (Option ℕ) → Memory
   loaded_memory version limit =
-      record { resources = resources_by bytes tree; version = version; moment = 0; limit = limit; tag_part = None; held = loaded_held }
+      record { resources = resources_by bytes tree; version = version; moment = 0; limit = limit; tag_part = None; marks = false; held = loaded_held }
 
 -- the entries are those of this tree, which is saved elsewhere, and there are no bodies for requests to come
 pub record IsLoaded {B : Type 0} (body : Coded B) (bytes : B → List ℕ) (tree : Tree (Entry B)) (kept : Kept) : Type 0 where

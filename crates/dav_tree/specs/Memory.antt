@@ -1,5 +1,5 @@
 -- The state of the in-memory store without its log, and the effects of its calls on it: this project's own choice.
-use Rattle.std.specs.Prelude.{◌≡◌, ◌≢◌, ℕ, ◌+◌, ◌-◌, ◌/◌, ◌%◌, ◌^◌, min, Bool, true, false, List, [], ◌++◌, length, replicate, Option, Some, None, codes}
+use Rattle.std.specs.Prelude.{◌≡◌, ◌≢◌, ℕ, ◌+◌, ◌-◌, ◌/◌, ◌%◌, ◌^◌, min, Bool, true, false, if◌then◌else◌, List, [], ◌++◌, length, replicate, Option, Some, None, codes}
 use Rattle.std.specs.Option.{option_map}
 use Rattle.std.specs.List.{sum_by}
 use Rattle.std.specs.Fmt.{digits}
@@ -36,13 +36,14 @@ pub record Held : Type 0 where
   pub before : Gv
 
 -- the resources, the number of changes so far, the current time, the quota, if any: its total bytes, or no limit; the part of each entity tag that comes
--- before the version, if there is one; and the bodies
+-- before the version, if there is one; whether a directory is marked when its members change (`marked`); and the bodies
 pub record Memory : Type 0 where
   pub resources : Resources
   pub version : ℕ
   pub moment : ℕ
   pub limit : Option (Option ℕ)
   pub tag_part : Option ℕ
+  pub marks : Bool
   pub held : Held
 
 -- ---- what contracts see of it
@@ -149,6 +150,10 @@ with_properties properties s = record s { properties = properties }
 abbrev pub with_modified : ℕ → Stored → Stored
 with_modified time s = record s { modified = time }
 
+-- the resource as changed at time `now` by change number `version`
+abbrev pub touched : ℕ → ℕ → Stored → Stored
+touched version now s = record s { version = version; modified = now }
+
 -- the resource at the key, and nothing else, is changed
 abbrev pub change_at : Key → (Stored → Stored) → Resources → Resources
 change_at key change resources = put_at resources key (option_map change (get resources key))
@@ -169,6 +174,31 @@ without key old = record old { resources = remove old.resources key }
 abbrev pub copied : Key → Key → Memory → Memory
 copied from to old = record old { resources = put_at old.resources to (option_map (copy_of (get old.resources to) (old.version + 1) old.moment) (get old.resources from)); version = old.version + 1 }
 
+-- the directory at the key is changed, as it has gained or lost a member
+abbrev pub with_mark : Key → Memory → Memory
+with_mark key old = record old { resources = change_at key (touched (old.version + 1) old.moment) old.resources; version = old.version + 1 }
+
+-- the same if directories are marked
+abbrev pub marked : Key → Memory → Memory
+marked key old = if old.marks then with_mark key old else old
+
+-- a resource is created, so its parent gains a member
+abbrev pub added : Key → Node → Memory → Memory
+added key node old = marked (parent key) (made key node old)
+
+-- the resource at the key is removed, so its parent loses a member
+abbrev pub removed : Key → Memory → Memory
+removed key old = marked (parent key) (without key old)
+
+-- the parent of a key gains a member if nothing was there
+abbrev pub marked_by_copy : Option Stored → Key → Memory → Memory
+marked_by_copy None key old = marked (parent key) old
+marked_by_copy (Some s) key old = old
+
+-- the resource at the first key is copied to the second, and replaces what is there, or its parent gains a member
+abbrev pub copied_into : Key → Key → Memory → Memory
+copied_into from to old = marked_by_copy (get old.resources to) to (copied from to old)
+
 -- the properties at the key are changed; this does not count as a change
 abbrev pub with_patches : Key → List Patch → Memory → Memory
 with_patches key patches old = record old { resources = change_at key (λ s. with_properties (patched patches s.properties) s) old.resources }
@@ -184,7 +214,14 @@ pub record IsRenamed (from to : Key) (old new : Memory) : Type 0 where
   pub moment : new.moment ≡ old.moment
   pub limit : new.limit ≡ old.limit
   pub tag_part : new.tag_part ≡ old.tag_part
+  pub marks : new.marks ≡ old.marks
   pub held : new.held ≡ old.held
+
+-- the same, and then the first key's parent has lost a member, and the second key's parent has gained one
+pub record IsRenamedAndMarked (from to : Key) (old new : Memory) : Type 0 where
+  pub between : Memory
+  pub renamed : IsRenamed from to old between
+  pub becomes : new ≡ marked (parent to) (marked (parent from) between)
 
 -- ---- the effects of the calls on bodies
 
@@ -213,7 +250,7 @@ with_held change old = record old { held = change old.held }
 abbrev pub none_held : Held
 none_held = record { bodies = λ _. None; next = 0; before = gnil }
 
--- the root only, with this number of changes and this quota, no part of the entity tags, and no bodies
+-- the root only, with this number of changes and this quota, no part of the entity tags, and no bodies; no directory is marked
 abbrev pub first_memory : ℕ → Option (Option ℕ) → Memory
 first_memory version limit =
-    record { resources = insert empty [] (fresh Directory 0 0); version = version; moment = 0; limit = limit; tag_part = None; held = none_held }
+    record { resources = insert empty [] (fresh Directory 0 0); version = version; moment = 0; limit = limit; tag_part = None; marks = false; held = none_held }

@@ -1,5 +1,5 @@
 -- The exact result and effect of each call of the in-memory store: this project's own choice.
-use Rattle.std.specs.Prelude.{map, ◌≡◌, ◌≢◌, Bool, true, false, ℕ, ◌+◌, ◌-◌, ◌^◌, ◌==◌, if◌then◌else◌, List, [], ◌∷◌, ◌++◌, length, Option, Some, None, Result, Ok, Err, ◌⊎◌, IfOk, IfErr, MatchResult}
+use Rattle.std.specs.Prelude.{map, ◌≡◌, ◌≢◌, Bool, true, false, not, ◌||◌, ℕ, ◌+◌, ◌-◌, ◌^◌, ◌==◌, ltb, if◌then◌else◌, List, [], ◌∷◌, ◌++◌, length, Option, Some, None, Result, Ok, Err, ◌⊎◌, IfOk, IfErr, MatchResult}
 use Rattle.std.specs.Option.{option_map}
 use Rattle.std.specs.List.{AllZip}
 use Rattle.std.specs.FinMap.{get, entries}
@@ -21,7 +21,7 @@ use Rattle.dav_store.specs.Calls.{metadata_bar, create_dir_bar, open_bar, file_b
 use Rattle.dav_store.specs.Transfers.{copy_bar, rename_bar}
 use Rattle.dav_store.specs.PropertyCalls.{properties_at, get_prop_bar, properties_bar, get_quota_bar, named_element, HavePrefixes}
 use Rattle.dav_store.specs.Members.{members, member, remove_dir_bar, read_dir_bar}
-use Rattle.dav_tree.specs.Memory.{Stored, Resources, Held, Memory, tree_of, contents_of, quota_of, meta_of, made, filled}
+use Rattle.dav_tree.specs.Memory.{Stored, Resources, Held, Memory, tree_of, contents_of, quota_of, meta_of, filled, added}
 
 -- an error is the one that is due, unless it is one of the medium's own
 abbrev pub IsDue : Bool → Option FsError → FsError → Type 0
@@ -78,10 +78,29 @@ abbrev pub change_error : Option FsError → Memory → Option FsError
 change_error (Some e) old = Some e
 change_error None old = if old.version == 2 ^ 64 - 1 then Some errors.GeneralFailure else None
 
+-- directories are not marked, or the counter has room for this many changes
+abbrev pub has_room : ℕ → Memory → Bool
+has_room changes old = not old.marks || ltb (old.version + changes) (2 ^ 64)
+
+-- the error of a call that counts as this many changes with its marks: the one that is due without the marks, or else GeneralFailure if there is no room
+-- for the changes
+abbrev pub mark_error : ℕ → Option FsError → Memory → Option FsError
+mark_error changes (Some e) old = Some e
+mark_error changes None old = if has_room changes old then None else Some errors.GeneralFailure
+
+-- the error of a call that counts as a change and adds a member to a directory
+abbrev pub member_error : Option FsError → Memory → Option FsError
+member_error bar old = mark_error 2 (change_error bar old) old
+
 -- the number of the next change, or the error that there is none
 abbrev pub IsNextVersion : Memory → Result ℕ FsError → Type 0
 IsNextVersion old answer =
     MatchResult answer (λ version. (version ≡ old.version + 1) × (change_error None old ≡ None)) (λ e. change_error None old ≡ Some e)
+
+-- the same for a change that adds a member to a directory
+abbrev pub IsMemberVersion : Memory → Result ℕ FsError → Type 0
+IsMemberVersion old answer =
+    MatchResult answer (λ version. (version ≡ old.version + 1) × (member_error None old ≡ None)) (λ e. member_error None old ≡ Some e)
 
 -- ---- metadata
 
@@ -91,7 +110,7 @@ look_error key old = metadata_bar (get (tree_of old.resources) key)
 -- ---- create_dir
 
 abbrev pub create_dir_error : Key → Memory → Option FsError
-create_dir_error key old = change_error (create_dir_bar (get (tree_of old.resources) key) (get (tree_of old.resources) (parent key))) old
+create_dir_error key old = member_error (create_dir_bar (get (tree_of old.resources) key) (get (tree_of old.resources) (parent key))) old
 
 -- ---- read_dir
 
@@ -108,25 +127,25 @@ IsShown part directory resources name (Err e) = ⊥
 abbrev pub IsListing : Option ℕ → Key → Resources → List (Result DirEntry FsError) → Type 0
 IsListing part directory resources listing = AllZip (IsShown part directory resources) (members (tree_of resources) directory) listing
 
--- ---- remove_file and remove_dir: not counted as changes, so never refused
+-- ---- remove_file and remove_dir: not counted as changes, so refused only if there is no room for the mark of the parent
 
 abbrev pub remove_file_error : Key → Memory → Option FsError
-remove_file_error key old = must_be_file (get (tree_of old.resources) key)
+remove_file_error key old = mark_error 1 (must_be_file (get (tree_of old.resources) key)) old
 
 abbrev pub remove_dir_error : Key → Memory → Option FsError
-remove_dir_error key old = remove_dir_bar key (get (tree_of old.resources) key) (members (tree_of old.resources) key)
+remove_dir_error key old = mark_error 1 (remove_dir_bar key (get (tree_of old.resources) key) (members (tree_of old.resources) key)) old
 
 -- ---- open: an existing file that is not to be truncated stays as it is
 
 abbrev pub error_of_opening : OpenOptions → Option Stored → Option FsError → Memory → Option FsError
-error_of_opening options None bar old = change_error bar old
+error_of_opening options None bar old = member_error bar old
 error_of_opening options (Some s) bar old = if options.truncate then change_error bar old else bar
 
 abbrev pub open_error : OpenOptions → Key → Memory → Option FsError
 open_error options key old = error_of_opening options (get old.resources key) (open_bar options (get (tree_of old.resources) key) (get (tree_of old.resources) (parent key))) old
 
 abbrev pub opened_from : OpenOptions → Key → Option Stored → Memory → Memory
-opened_from options key None old = made key (File []) old
+opened_from options key None old = added key (File []) old
 opened_from options key (Some s) old = if options.truncate then filled key [] old else old
 
 abbrev pub opened : OpenOptions → Key → Memory → Memory
@@ -156,13 +175,25 @@ PlacesFile answer old file new = MatchResult answer (λ _. new ≡ file) (λ _. 
 abbrev pub after_write : DavFile → List ℕ → Memory → DavFile
 after_write file more old = record file { pos = place_of file (contents_of old) + length more }
 
--- ---- copy and rename: only the copy counts as a change
+-- ---- copy and rename: only the copy counts as a change, but for the marks of directories
+
+-- a copy that replaces nothing adds a member to a directory
+abbrev pub error_of_copy : Option Stored → Option FsError → Memory → Option FsError
+error_of_copy None bar old = member_error bar old
+error_of_copy (Some s) bar old = change_error bar old
+
+-- the number of the change that a copy counts as, or the error that there is none
+abbrev pub IsCopyVersion : Option Stored → Memory → Result ℕ FsError → Type 0
+IsCopyVersion there old answer =
+    MatchResult answer (λ version. (version ≡ old.version + 1) × (error_of_copy there None old ≡ None)) (λ e. error_of_copy there None old ≡ Some e)
 
 abbrev pub copy_error : Key → Key → Memory → Option FsError
-copy_error from to old = change_error (copy_bar (get (tree_of old.resources) from) (get (tree_of old.resources) to) (get (tree_of old.resources) (parent to))) old
+copy_error from to old =
+    error_of_copy (get old.resources to) (copy_bar (get (tree_of old.resources) from) (get (tree_of old.resources) to) (get (tree_of old.resources) (parent to))) old
 
 abbrev pub rename_error : Key → Key → Memory → Option FsError
-rename_error from to old = rename_bar from to (get (tree_of old.resources) from) (get (tree_of old.resources) to) (get (tree_of old.resources) (parent to))
+rename_error from to old =
+    mark_error 2 (rename_bar from to (get (tree_of old.resources) from) (get (tree_of old.resources) to) (get (tree_of old.resources) (parent to))) old
 
 -- ---- properties: changing them does not count as a change
 

@@ -1,11 +1,11 @@
 -- What the parts of entity tags are for: this project's own choice.
-use Rattle.std.proofs.Common.{◌≡◌, ◌∙◌, ◌+◌, ◌*◌, ◌-◌, ◌/◌, ◌%◌, ◌^◌, ◌<◌, ◌≤◌, ◌==◌, ℕ, zero, suc, Bool, true, false, if◌then◌else◌, nat_lt, List, [], ◌∷◌, ◌++◌, codes, length, drop, replicate, get_or, Some, refl, sym, ap, arith, append_assoc}
+use Rattle.std.proofs.Common.{Option, ◌≡◌, ◌∙◌, ◌+◌, ◌*◌, ◌-◌, ◌/◌, ◌%◌, ◌^◌, ◌<◌, ◌≤◌, ◌==◌, ℕ, zero, suc, Bool, true, false, if◌then◌else◌, nat_lt, List, [], ◌∷◌, ◌++◌, codes, length, drop, replicate, get_or, Some, refl, sym, ap, arith, append_assoc}
 use Rattle.std.proofs.lemmas.Bool.Decides.{nat_tests}
 use Rattle.std.proofs.lemmas.List.{length-append, length-replicate}
 use Rattle.std.proofs.Math.Nat.{pow-succ'}
 use Rattle.std.specs.Fmt.{digits, digits_onto, digit_glyph}
 use Rattle.dav_store.specs.Store.{StartsWith}
-use Rattle.dav_tree.specs.Memory.{hexadecimal, sixteen_digits, tag_start}
+use Rattle.dav_tree.specs.Memory.{hexadecimal, sixteen_digits, tag_start, tag_text}
 
 -- ---- a number from its digits
 
@@ -98,3 +98,13 @@ no_tag_twice one other tag small low first second =
     let upper : one / 2 ^ 64 ≡ other / 2 ^ 64 = high.0 in
     let lower : one % 2 ^ 64 ≡ other % 2 ^ 64 = rest.0 in
     omega arith
+
+hexadecimal_is : (n : ℕ) → n < 2 ^ 64 → number_of 0 (hexadecimal n) ≡ n
+unfolding digits
+hexadecimal_is n small = number_back 64 n [] (omega arith)
+
+-- Two versions have two entity tags. So a resource that gets a version that none had gets a tag that none had.
+pub one_version_a_tag : (part : Option ℕ) (version other : ℕ) → version < 2 ^ 64 → other < 2 ^ 64 → tag_text part version ≡ tag_text part other → version ≡ other
+one_version_a_tag part version other small low same =
+    let digits_same = (split (tag_start part) (tag_start part) (hexadecimal version) (hexadecimal other) refl same).1 in
+    sym (hexadecimal_is version small) ∙ ap (number_of 0) digits_same ∙ hexadecimal_is other low

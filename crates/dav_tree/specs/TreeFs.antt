@@ -1,5 +1,6 @@
 -- What contracts see of a store with its tree in memory.
-use Rattle.std.specs.Prelude.{ℕ, Bool, List, map, Option, Result}
+use Rattle.std.specs.Prelude.{◌≡◌, ℕ, Bool, List, map, Option, Some, Result}
+use Rattle.std.specs.FinMap.{get}
 use base.Stored.{Gv}
 use Rattle.dav_key.specs.Key.{Key}
 use Rattle.dav_resource.specs.declared.error.FsError.{FsError}
@@ -8,7 +9,7 @@ use Rattle.dav_store.specs.Logged.{logged_of}
 use Rattle.dav_store.specs.Calls.{Reads}
 use Rattle.dav_store.specs.Store.{Store}
 use Rattle.dav_store.specs.BodyCalls.{stored_bytes}
-use Rattle.dav_tree.specs.Memory.{Memory, seen_of, file_bytes}
+use Rattle.dav_tree.specs.Memory.{Memory, seen_of, file_bytes, marked}
 use Rattle.dav_tree.specs.MemoryCalls.{Gives, Yields, GivesOver}
 use Rattle.dav_tree.specs.Kept.{held_of}
 use Rattle.dav_tree.specs.declared.medium.Medium.{Ghosts}
@@ -17,7 +18,19 @@ use Rattle.dav_tree.specs.declared.tree_fs.TreeFs.{TreeFs}
 module _ {M B : Type 0} {g : Ghosts M B} where
   abbrev pub memory_of : TreeFs M B g → Memory
   memory_of store =
-      record { resources = store.entries.resources; version = store.version; moment = store.moment; limit = store.limit; tag_part = store.tag_part; held = held_of store.entries }
+      record {
+        resources = store.entries.resources;
+        version = store.version;
+        moment = store.moment;
+        limit = store.limit;
+        tag_part = store.tag_part;
+        marks = store.marks_parents;
+        held = held_of store.entries;
+      }
+
+  -- the directory with this number is marked
+  abbrev pub MarksAt : ℕ → TreeFs M B g → TreeFs M B g → Type 0
+  MarksAt number old new = (key : Key) → get old.entries.numbers key ≡ Some number → memory_of new ≡ marked key (memory_of old)
 
   -- the bytes of the body of a number, none if there is no such body
   abbrev pub body_of : TreeFs M B g → ℕ → List ℕ

@@ -2,15 +2,15 @@
 ghost use Rattle.std.specs.Prelude.{◌≡◌, ◌≢◌, ◌<◌, ◌≤◌, ◌+◌, ◌^◌, ◌++◌, ◌∷◌, [], true, false, IfOk, IfSome, IfErr, OnOk, OnErr, Some, None, MatchOption, IsSome, List, ℕ};
 ghost use Rattle.std.specs.FinMap as map;
 ghost use Rattle.dav_key.specs.Key.{Key, parent};
-ghost use Rattle.dav_key.specs.Below.{AreApart};
+ghost use Rattle.dav_key.specs.Below.{AreApart, IsMoved};
 ghost use Rattle.dav_nodes.specs.Noted.{tree_of, before_of};
 ghost use Rattle.dav_store.specs.Store.{File, Directory};
 ghost use Rattle.dav_store.specs.PropertyCalls.{patched};
-ghost use Rattle.dav_tree.specs.Memory.{Stored, used_by, size_of, meta_of, fresh, with_properties, with_modified, asked};
+ghost use Rattle.dav_tree.specs.Memory.{Stored, used_by, size_of, meta_of, fresh, touched, with_properties, with_modified, asked};
 ghost use Rattle.dav_nodes.specs.Rows.{row_in};
 ghost use Rattle.dav_tree.specs.Before.{IsNotedBetween, IsSaved, HasSaved, HasTree, HasEntry, HasNoEntry};
 ghost use Rattle.dav_tree.specs.KeptCalls.{IsUnchanged, IsChangedAt, ChangesAt};
-ghost use Rattle.dav_tree.specs.Kept.{held_of, IsFirst, IsAbsent, IsFound, IsNumber, IsAt, IsTaken, Has, HasMoved};
+ghost use Rattle.dav_tree.specs.Kept.{held_of, IsFirst, IsAbsent, IsFound, IsNumber, IsAt, IsTaken, Has, HasMoved, KeepsNumbers, KeepsOtherNumbers};
 
 mod bodies;
 mod contents;
@@ -162,6 +162,7 @@ impl<M: Medium> Entries<M> {
         requires absent { IsAbsent self.old key.now }
         requires above { IsSome (map.get self.old.numbers (parent key.now)) }
         ensures ok { OnOk result (Has (map.insert self.old.resources key.now (fresh Directory version now)) (held_of self.old) self.new) }
+        ensures numbers { OnOk result (KeepsNumbers self.old self.new) }
         ensures err { OnErr result (self.new ≡ self.old) }
     {
         let entry = Entry::new(self.alloc, Content::Directory, version, now);
@@ -174,6 +175,7 @@ impl<M: Medium> Entries<M> {
         requires absent { IsAbsent self.old key.now }
         requires above { IsSome (map.get self.old.numbers (parent key.now)) }
         ensures ok { OnOk result (Has (map.insert self.old.resources key.now (fresh (File []) version now)) (held_of self.old) self.new) }
+        ensures numbers { OnOk result (KeepsNumbers self.old self.new) }
         ensures err { OnErr result (self.new ≡ self.old) }
     {
         let body = self.medium.empty(self.alloc);
@@ -187,7 +189,8 @@ impl<M: Medium> Entries<M> {
         requires there { IsSome (map.get self.old.numbers key.now) }
         requires root { key.now ≢ [] }
         requires childless { (name : List ℕ) → map.get self.old.resources (key.now ++ name ∷ []) ≡ None }
-        ensures { Has (map.remove self.old.resources key.now) (held_of self.old) self.new }
+        ensures removed { Has (map.remove self.old.resources key.now) (held_of self.old) self.new }
+        ensures numbers { KeepsOtherNumbers key.now self.old self.new }
     {
         if let Some(entry) = self.tree.remove(key) {
             self.used -= entry::len(&self.medium, &entry.content) as u128;
@@ -204,6 +207,7 @@ impl<M: Medium> Entries<M> {
         requires above { IsSome (map.get self.old.numbers (parent to.now)) }
         requires none { (below : Key) → map.get self.old.resources (to.now ++ below) ≡ None }
         ensures ok { OnOk result (HasMoved from.now to.now self.old self.new) }
+        ensures numbers { OnOk result (IsMoved from.now to.now self.old.numbers self.new.numbers) }
         ensures err { OnErr result (self.new ≡ self.old) }
     {
         self.tree.rename(from, to)
@@ -289,6 +293,18 @@ impl<M: Medium> Entries<M> {
         let answer = entry.properties.patch(patches);
         self.tree.exchange(number, &mut entry);
         answer
+    }
+
+    /// Records that the resource with a number was changed at time `now`, by change number `version`.
+    pub fn touch(&mut self, number: usize, version: u64, now: u64)
+        requires { (key : Key) × (map.get self.old.numbers key ≡ Some number) }
+        ensures touched { IsChangedAt number (touched version now) self.old self.new }
+        ensures numbers { self.new.numbers ≡ self.old.numbers }
+    {
+        let mut entry = take(self.alloc, &mut self.tree, number);
+        entry.version = version;
+        entry.modified = now;
+        self.tree.exchange(number, &mut entry);
     }
 
     /// Sets when the resource with a number was last modified, in whole seconds since 1970.

@@ -8,7 +8,7 @@ ghost use Rattle.dav_store.specs.BodyCalls.{StartsBody, AddsToBody, with_body};
 ghost use Rattle.dav_store.specs.Members.{ReadsDir, RemovesFile, RemovesDir};
 ghost use Rattle.dav_store.specs.Transfers.{Copies, Renames};
 ghost use Rattle.dav_store.specs.PropertyCalls.{name_of, properties_at, IsWhole, GetsProp, GetsProps, PatchesProps, GetsQuota};
-ghost use Rattle.dav_tree.specs.Memory.{IsSound, contents_of, begun, lengthened, put_held, with_held, made, without, copied, IsRenamed, with_patches};
+ghost use Rattle.dav_tree.specs.Memory.{IsSound, contents_of, begun, lengthened, put_held, with_held, added, removed, copied_into, IsRenamedAndMarked, with_patches};
 ghost use Rattle.dav_tree.specs.Dump.{IsDump};
 ghost use Rattle.dav_tree.specs.Lawful.{are_tagged, is_well_formed};
 ghost use Rattle.dav_tree.specs.MemoryCalls.{PlacesFile, Records, RecordsWith, kept, look_error, read_dir_error, IsListing, create_dir_error, remove_file_error, remove_dir_error, read_bytes_error, open_error, opened, file_error, write_error, written, after_write, copy_error, rename_error, get_prop_error, properties_error, IsPropertyList, quota_error, start_error, add_error};
@@ -37,13 +37,13 @@ use std::alloc::Global;
 /// A store of files and directories with dead properties, whose tree is in memory. What files contain is on a
 /// medium.
 ///
-/// It refuses a recorded call for its own reasons in two cases. One is that the call would count as a change,
-/// and the change counter is at `u64::MAX`. The error is then `GeneralFailure`. The counter starts at 0
-/// (`with_version` sets another start). Each successful `create_dir`, `copy`, `write_bytes` and `write_body`,
-/// and each `open` that creates or truncates a file, adds one. The new number, in lower-case hexadecimal, is
-/// the entity tag of the resource created or changed, behind the part that `set_tag_part` has set for all tags,
-/// if any. The other case is an error of the medium's own, in
-/// `read_bytes`, `write_bytes`, `write_body` and `copy`. A medium in memory has no such errors.
+/// It refuses a recorded call for its own reasons in two cases. One is that the call would count as a change, and the
+/// change counter would pass `u64::MAX`. The error is then `GeneralFailure`. The counter starts at 0 (`with_version`
+/// sets another start). Each successful `create_dir`, `copy`, `write_bytes` and `write_body`, and each `open` that
+/// creates or truncates a file, adds one. The new number, in lower-case hexadecimal, is the entity tag of the resource
+/// created or changed, behind the part that `set_tag_part` has set for all tags, if any. If directories are marked
+/// (`set_marks_parents`), each mark adds one too, and gives the directory a new entity tag. The other case is an error
+/// of the medium's own, in `read_bytes`, `write_bytes`, `write_body` and `copy`. A medium in memory has no such errors.
 ///
 /// It allows every call and lists every member. The bodies that it holds for requests to come do not count in
 /// the quota. Their numbers are given in ascending order from 0, and each only once. `start_body` refuses
@@ -58,6 +58,7 @@ pub struct TreeFs<M: Medium> {
     moment: u64,
     limit: Option<Option<u64>>,
     tag_part: Option<u128>,
+    marks_parents: bool,
     log: Vec<Record>,
     ghost sound: { IsSound entries.resources } by { Prim.hlevel (props, IsKey-prop) },
 }
@@ -137,6 +138,7 @@ impl<M: Medium> TreeFs<M> {
             moment: 0,
             limit,
             tag_part: None,
+            marks_parents: false,
             log: Vec::new(alloc),
         })
     }
@@ -255,6 +257,19 @@ impl<M: Medium> TreeFs<M> {
         self.tag_part = part;
     }
 
+    /// Sets whether a directory is marked when it gains or loses a member: it then gets a new version, which is its
+    /// entity tag, and the current time as its time of modification. A new store marks no directory. Nothing else changes.
+    ///
+    /// A `create_dir`, an `open` that creates a file, a `remove_file`, a `remove_dir`, and a `copy` to a path where nothing
+    /// exists mark the parent of the path. A `rename` marks both parents, also where they are one directory.
+    pub fn set_marks_parents(&mut self, marks: bool)
+        ensures memory { memory_of self.new ≡ record (memory_of self.old) { marks = marks } }
+        ensures entries { self.new.entries ≡ self.old.entries }
+        ensures records { records_of self.new ≡ records_of self.old }
+    {
+        self.marks_parents = marks;
+    }
+
     /// Sets when the resource at a path was last modified, in whole seconds since 1970. Nothing else changes: its entity
     /// tag and the log stay the same.
     ///
@@ -299,7 +314,7 @@ impl<C, M: Medium> GuardedFileSystem<C> for TreeFs<M> {
 
     fn create_dir(&mut self, path: &DavPath, _credentials: &C) -> FsResult<()>
         ensures seen { MakesDirectory (store_of self.old) path.now.key result (store_of self.new) }
-        ensures memory { GivesIn (create_dir_error path.now.key) (made path.now.key Directory) self.old result self.new }
+        ensures memory { GivesIn (create_dir_error path.now.key) (added path.now.key Directory) self.old result self.new }
         ensures record { Records Op.CreateDir (path.now ∷ []) result (records_of self.old) (records_of self.new) }
     {
         let paths = self.begin_record(path)?;
@@ -320,7 +335,7 @@ impl<C, M: Medium> GuardedFileSystem<C> for TreeFs<M> {
 
     fn remove_file(&mut self, path: &DavPath, _credentials: &C) -> FsResult<()>
         ensures seen { RemovesFile (store_of self.old) path.now.key result (store_of self.new) }
-        ensures memory { GivesIn (remove_file_error path.now.key) (without path.now.key) self.old result self.new }
+        ensures memory { GivesIn (remove_file_error path.now.key) (removed path.now.key) self.old result self.new }
         ensures record { Records Op.RemoveFile (path.now ∷ []) result (records_of self.old) (records_of self.new) }
     {
         let paths = self.begin_record(path)?;
@@ -330,7 +345,7 @@ impl<C, M: Medium> GuardedFileSystem<C> for TreeFs<M> {
 
     fn remove_dir(&mut self, path: &DavPath, _credentials: &C) -> FsResult<()>
         ensures seen { RemovesDir (store_of self.old) path.now.key result (store_of self.new) }
-        ensures memory { GivesIn (remove_dir_error path.now.key) (without path.now.key) self.old result self.new }
+        ensures memory { GivesIn (remove_dir_error path.now.key) (removed path.now.key) self.old result self.new }
         ensures record { Records Op.RemoveDir (path.now ∷ []) result (records_of self.old) (records_of self.new) }
     {
         let paths = self.begin_record(path)?;
@@ -431,7 +446,7 @@ impl<C, M: Medium> GuardedFileSystem<C> for TreeFs<M> {
     /// Copies the file's bytes and the names of its properties. The elements are shared.
     fn copy(&mut self, from: &DavPath, to: &DavPath, _credentials: &C) -> FsResult<()>
         ensures seen { Copies (store_of self.old) from.now.key to.now.key result (store_of self.new) }
-        ensures memory { GivesOverIn (copy_error from.now.key to.now.key) (copied from.now.key to.now.key) self.old result self.new }
+        ensures memory { GivesOverIn (copy_error from.now.key to.now.key) (copied_into from.now.key to.now.key) self.old result self.new }
         ensures record { Records Op.Copy (from.now ∷ to.now ∷ []) result (records_of self.old) (records_of self.new) }
     {
         let paths = self.begin_record_of_two(from, to)?;
@@ -442,7 +457,7 @@ impl<C, M: Medium> GuardedFileSystem<C> for TreeFs<M> {
     /// It costs the same however many resources are below the path. No file's bytes are copied.
     fn rename(&mut self, from: &DavPath, to: &DavPath, _credentials: &C) -> FsResult<()>
         ensures seen { Renames (store_of self.old) from.now.key to.now.key result (store_of self.new) }
-        ensures memory { YieldsIn (rename_error from.now.key to.now.key) (IsRenamed from.now.key to.now.key) self.old result self.new }
+        ensures memory { YieldsIn (rename_error from.now.key to.now.key) (IsRenamedAndMarked from.now.key to.now.key) self.old result self.new }
         ensures record { Records Op.Rename (from.now ∷ to.now ∷ []) result (records_of self.old) (records_of self.new) }
     {
         let paths = self.begin_record_of_two(from, to)?;

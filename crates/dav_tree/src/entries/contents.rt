@@ -1,5 +1,5 @@
 //! What files contain.
-ghost use Rattle.std.specs.Prelude.{◌≡◌, ◌⊎◌, ◌<◌, ◌+◌, ◌^◌, true, [], length, IfErr, OnErr, Some, IsSome};
+ghost use Rattle.std.specs.Prelude.{◌≡◌, ◌⊎◌, ◌<◌, ◌+◌, ◌^◌, true, [], length, IfErr, OnOk, OnErr, Some, IsSome};
 ghost use Rattle.std.specs.FinMap as map;
 ghost use Rattle.dav_key.specs.Key.{parent};
 ghost use Rattle.dav_store.specs.BodyCalls.{stored_bytes};
@@ -7,7 +7,7 @@ ghost use Rattle.dav_resource.specs.declared.error.FsError.{FsError};
 ghost use Rattle.dav_tree.specs.Bodies.{FailsFor};
 ghost use Rattle.dav_tree.specs.Memory.{with_bytes, wrote};
 ghost use Rattle.dav_tree.specs.KeptCalls.{IsUnchanged, IsChangedAt, ChangesAt, CopiesOver, CopiesNew, ReadsFrom, ReadsCount};
-ghost use Rattle.dav_tree.specs.Kept.{held_of, IsNumber, IsFileNumber, IsAbsent};
+ghost use Rattle.dav_tree.specs.Kept.{held_of, IsNumber, IsFileNumber, IsAbsent, KeepsNumbers};
 
 use super::{Entries, entry_at, take};
 use crate::entry::{self, Content};
@@ -122,6 +122,7 @@ impl<M: Medium> Entries<M> {
         requires from { IsNumber self.old from }
         requires to { IsNumber self.old to }
         ensures ok { CopiesOver result from to version now self.old self.new }
+        ensures numbers { OnOk result (KeepsNumbers self.old self.new) }
         ensures same { OnErr result (self.new ≡ self.old) }
         ensures err { IfErr result (FailsFor M.refuses) }
     {
@@ -142,6 +143,7 @@ impl<M: Medium> Entries<M> {
         requires absent { IsAbsent self.old to.now }
         requires above { IsSome (map.get self.old.numbers (parent to.now)) }
         ensures ok { CopiesNew result from to.now version now self.old self.new }
+        ensures numbers { OnOk result (KeepsNumbers self.old self.new) }
         ensures same { OnErr result (self.new ≡ self.old) }
         ensures err { IfErr result (FailsFor M.refuses) }
     {

@@ -1,13 +1,13 @@
 //! Lookups of parents, of files and of stored bodies, and copies to a looked-up place.
-ghost use Rattle.std.specs.Prelude.{◌≡◌, ◌<◌, ◌^◌, length, MatchResult, OnErr, IfErr, Some, IsSome};
+ghost use Rattle.std.specs.Prelude.{◌≡◌, ◌<◌, ◌^◌, length, MatchResult, OnOk, OnErr, IfErr, Some, IsSome};
 ghost use Rattle.std.specs.FinMap as map;
 ghost use Rattle.dav_key.specs.Key.{parent};
 ghost use Rattle.dav_store.specs.BodyCalls.{stored_bytes};
 ghost use Rattle.dav_store.specs.Calls.{file_bar};
 ghost use Rattle.dav_tree.specs.Bodies.{FailsFor};
-ghost use Rattle.dav_tree.specs.Found.{Finds, IsFileFound, IsDirectoryFound};
+ghost use Rattle.dav_tree.specs.Found.{Finds, IsFileFound, FindsDirectory};
 ghost use Rattle.dav_tree.specs.KeptCalls.{CopiesTo};
-ghost use Rattle.dav_tree.specs.Kept.{held_of, IsNumber};
+ghost use Rattle.dav_tree.specs.Kept.{held_of, IsNumber, KeepsNumbers};
 ghost use Rattle.dav_tree.specs.Memory.{tree_of};
 
 use super::{Entries, Place};
@@ -31,14 +31,17 @@ impl<M: Medium> Entries<M> {
         Some(Place { number, directory })
     }
 
-    /// Returns whether the parent of a key is a directory. Makes one lookup.
-    pub fn has_directory_above(&self, key: &FlatKey) -> bool
-        ensures { IsDirectoryFound self.now (parent key.now) result }
+    /// Returns the number of the parent of a key, if it is a directory. Makes one lookup.
+    pub fn directory_above(&self, key: &FlatKey) -> Option<usize>
+        ensures { FindsDirectory self.now (parent key.now) result }
     {
-        match self.find_above(key) {
-            Some(place) => place.directory,
-            None => false,
+        let Some(place) = self.find_above(key) else {
+            return None;
+        };
+        if !place.directory {
+            return None;
         }
+        Some(place.number)
     }
 
     /// Returns the number of the file at a key. Returns `NotFound` if there is no file. Makes one lookup.
@@ -81,6 +84,7 @@ impl<M: Medium> Entries<M> {
         requires there { Finds self.old to.now there }
         requires above { IsSome (map.get self.old.numbers (parent to.now)) }
         ensures ok { CopiesTo result from to.now version now self.old self.new }
+        ensures numbers { OnOk result (KeepsNumbers self.old self.new) }
         ensures same { OnErr result (self.new ≡ self.old) }
         ensures err { IfErr result (FailsFor M.refuses) }
     {

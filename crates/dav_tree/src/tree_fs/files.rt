@@ -59,15 +59,16 @@ impl<M: Medium> TreeFs<M> {
         ensures log { self.new.log ≡ self.old.log }
         ensures opened { GivesIn (open_error options.now path.now.key) (opened options.now path.now.key) self.old result self.new }
     {
-        if !self.entries.has_directory_above(path.key()) {
+        let Some(above) = self.entries.directory_above(path.key()) else {
             return Err(FsError::NotFound);
-        }
+        };
         if !may_make(options) {
             return Err(FsError::NotFound);
         }
-        let version = self.next_version()?;
+        let version = self.member_version()?;
         self.entries.add_file(path.key(), version, self.moment)?;
         self.version = version;
+        self.mark(above);
         Ok(())
     }
 

@@ -21,7 +21,8 @@ use std::alloc::Global;
 impl<M: Medium> TreeFs<M> {
     /// Creates a store of resources that were saved elsewhere, over a medium on which their bodies are safe. There
     /// are no bodies for requests to come, and the time is 0. The change counter is at `version`, the quota is
-    /// `limit`, the entity tags have no part beside the version, and the log is empty. What is loaded counts as saved.
+    /// `limit`, the entity tags have no part beside the version, directories are not marked, and the log is empty. What
+    /// is loaded counts as saved.
     ///
     /// The rows are in ascending order of their numbers, as `resource` returns them. Of the first row, the root's,
     /// only the number and the value are read. Makes at most one pass over the rows for each level of the tree.
@@ -68,6 +69,7 @@ impl<M: Medium> TreeFs<M> {
             moment: 0,
             limit,
             tag_part: None,
+            marks_parents: false,
             log: Vec::new(alloc),
         })
     }

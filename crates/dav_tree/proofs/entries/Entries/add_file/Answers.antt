@@ -4,7 +4,9 @@ use Rattle.dav_tree.specs.declared.entry.Content.TheVariants.{File}
 use Rattle.dav_tree.specs.Memory.{size_of, fresh}
 use Rattle.dav_tree.specs.Entry.{node_by, is_held}
 use Rattle.dav_tree.specs.Before.{past_code}
+use Rattle.dav_tree.specs.Kept.{Kept}
 use Rattle.dav_tree.proofs.Keeping.{stored-fresh}
+use Rattle.dav_tree.proofs.Marking.{numbers-insert}
 use Rattle.dav_tree.proofs.Editing.{added-kept, added-has}
 use Rattle.dav_tree.proofs.Saving.{saved-same}
 use Rattle.dav_tree.proofs.entries.Entries.add_file.Goals as goal
@@ -17,6 +19,10 @@ invariant_of-self-2 g c =
       saved-same (g.M.Medium.safe f.medium) _ _ c.add.ensures.before c.self.invariant.1,
       c.self.invariant.2,
     )
+
+pub returns-clause-numbers : goal.returns-clause-numbers
+returns-clause-numbers g c =
+    numbers-insert c.args.self.now.numbers c.self.inside.tree.nodes.numbers c.add.new.self.nodes.numbers c.args.key.now _ c.requires.absent.unnumbered (ap (λ (k : Kept). k.numbers) c.self.view_is) c.in_ok-add.ensures.ok.numbers
 
 pub returns-clause-ok : goal.returns-clause-ok
 returns-clause-ok g c =

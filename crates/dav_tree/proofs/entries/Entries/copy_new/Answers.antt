@@ -1,5 +1,7 @@
 use Rattle.std.proofs.Common.{ap, refl, arith}
 use Rattle.dav_tree.specs.Before.{past_code}
+use Rattle.dav_tree.specs.Kept.{Kept}
+use Rattle.dav_tree.proofs.Marking.{numbers-insert}
 use Rattle.dav_tree.proofs.Keeping.{entry-in, copy-in, counted-before}
 use Rattle.dav_tree.proofs.Editing.{added-kept, added-has}
 use Rattle.dav_tree.proofs.Saving.{saved-same}
@@ -18,6 +20,10 @@ invariant_of-self-2 g c =
       saved-same (g.M.Medium.safe f.medium) _ _ c.add.ensures.before c.self.invariant.1,
       c.self.invariant.2,
     )
+
+pub returns-clause-numbers : goal.returns-clause-numbers
+returns-clause-numbers g c =
+    numbers-insert c.args.self.now.numbers c.self.inside.tree.nodes.numbers c.add.new.self.nodes.numbers c.args.to.now _ c.requires.absent.unnumbered (ap (λ (k : Kept). k.numbers) c.self.view_is) c.in_ok-add.ensures.ok.numbers
 
 pub returns-clause-ok : goal.returns-clause-ok
 returns-clause-ok g c = λ k s at.

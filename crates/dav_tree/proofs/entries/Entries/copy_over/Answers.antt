@@ -1,4 +1,5 @@
 use Rattle.std.proofs.Common.{◌∙◌, ap, refl, Some, arith}
+use Rattle.std.specs.FinMap.{get}
 use Rattle.dav_tree.specs.Memory.{Stored}
 use Rattle.dav_tree.specs.Before.{past_code}
 use Rattle.dav_tree.proofs.Keeping.{entry-in, stored-in, copy-in, numbered-in}
@@ -25,6 +26,12 @@ invariant_of-self g c =
       saved-same (g.M.Medium.safe f.medium) _ _ c.exchange.ensures.before c.self.invariant.1,
       c.self.invariant.2,
     )
+
+pub returns-clause-numbers : goal.returns-clause-numbers
+returns-clause-numbers g c = λ key number numbered.
+    let f = c.self.inside in let b = g.M.Medium.bytes f.medium in
+    let r = c.exchange.ensures.replaced c.requires.to.0 (numbered-in b _ f.tree.nodes f.bodies f.next _ c.args.self.now c.self.view_is c.requires.to.0 (Some c.args.to) c.requires.to.2.numbered) in
+    ap (λ m. get m key) r.numbers ∙ numbered-in b _ f.tree.nodes f.bodies f.next _ c.args.self.now c.self.view_is key (Some number) numbered
 
 pub returns-clause-ok : goal.returns-clause-ok
 returns-clause-ok g c = λ k key s t at_s at_t.

@@ -1,8 +1,10 @@
 use Rattle.std.proofs.Common.{◌≡◌, ◌∙◌, ap, refl, sym, Some, None, arith}
 use Rattle.std.specs.Option.{option_map}
-use Rattle.std.specs.FinMap.{get}
+use Rattle.std.specs.FinMap.{get, remove}
 use Rattle.dav_tree.specs.Entry.{stored_by}
 use Rattle.dav_tree.specs.Before.{past_code}
+use Rattle.dav_tree.specs.Kept.{Kept}
+use Rattle.dav_tree.proofs.Marking.{numbers-remove}
 use Rattle.dav_tree.proofs.Keeping.{kept-resources, missing-in, counted-before}
 use Rattle.dav_tree.proofs.Sums.{part}
 use Rattle.dav_tree.proofs.Editing.{size, part-fits, removed-kept, removed-has}
@@ -30,8 +32,8 @@ invariant_of-self g c =
       c.self.invariant.2,
     )
 
-pub returns-in-Some : goal.returns-in-Some
-returns-in-Some g c =
+pub returns-in-Some-clause-removed : goal.returns-in-Some-clause-removed
+returns-in-Some-clause-removed g c =
     let f = c.self.inside in let b = g.M.Medium.bytes f.medium in let h = g.M.Medium.holds f.medium in
     removed-has b b h h (λ _ held. held) (λ _ _. refl) _ f.tree.nodes f.used f.bodies f.next _ c.args.self.now c.self.view_is c.self.invariant.0 c.args.key.now c.remove.new.self.nodes c.remove.ensures.removed.values _ _ (ap (past_code g.M.Medium.body_code b) c.remove.ensures.before)
 
@@ -45,7 +47,15 @@ invariant_of-self-in_default g c =
       c.self.invariant.2,
     )
 
-pub returns-in_default : goal.returns-in_default
-returns-in_default g c =
+pub returns-in_default-clause-removed : goal.returns-in_default-clause-removed
+returns-in_default-clause-removed g c =
     let f = c.self.inside in let b = g.M.Medium.bytes f.medium in let h = g.M.Medium.holds f.medium in
     removed-has b b h h (λ _ held. held) (λ _ _. refl) _ f.tree.nodes f.used f.bodies f.next _ c.args.self.now c.self.view_is c.self.invariant.0 c.args.key.now c.remove.new.self.nodes c.remove.ensures.removed.values _ _ (ap (past_code g.M.Medium.body_code b) c.remove.ensures.before)
+
+pub returns-in-Some-clause-numbers : goal.returns-in-Some-clause-numbers
+returns-in-Some-clause-numbers g c =
+    numbers-remove c.args.self.now.numbers c.remove.new.self.nodes.numbers c.args.key.now (c.remove.ensures.removed.numbers ∙ ap (λ (k : Kept). remove k.numbers c.args.key.now) c.self.view_is)
+
+pub returns-in_default-clause-numbers : goal.returns-in_default-clause-numbers
+returns-in_default-clause-numbers g c =
+    numbers-remove c.args.self.now.numbers c.remove.new.self.nodes.numbers c.args.key.now (c.remove.ensures.removed.numbers ∙ ap (λ (k : Kept). remove k.numbers c.args.key.now) c.self.view_is)

@@ -1,5 +1,6 @@
 use Rattle.std.proofs.Common.{ap, refl, sym, subst}
-use Rattle.dav_tree.specs.Kept.{AreKept}
+use Rattle.dav_key.specs.Below.{IsMoved}
+use Rattle.dav_tree.specs.Kept.{Kept, AreKept}
 use Rattle.dav_tree.specs.Before.{past_code}
 use Rattle.dav_tree.proofs.Editing.{moved-kept, moved-has}
 use Rattle.dav_tree.proofs.Outcomes.{either_way, on_ok_then}
@@ -15,6 +16,10 @@ invariant_of-self g c =
       saved-same (g.M.Medium.safe f.medium) _ _ c.rename.ensures.before c.self.invariant.1,
       c.self.invariant.2,
     )
+
+pub returns-clause-numbers : goal.returns-clause-numbers
+returns-clause-numbers g c =
+    on_ok_then c.rename.result (λ m. subst (λ (k : Kept). IsMoved c.args.from.now c.args.to.now k.numbers c.rename.new.self.nodes.numbers) c.self.view_is m.numbers) c.rename.ensures.ok
 
 pub returns-clause-ok : goal.returns-clause-ok
 returns-clause-ok g c =

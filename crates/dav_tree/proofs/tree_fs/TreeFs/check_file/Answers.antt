@@ -9,4 +9,4 @@ returns-clause-answer g c =
     let e = c.args.self.now.entries in
     let found = c.in_ok-find_file.ensures.found in
     let at = at-key e e refl c.args.file.now.path.key _ c.key.ensures.value _ _ found.at in
-    over-ok _ _ _ _ _ _ (file_there e.resources c.args.file.now.path.key found.stored at.there found.file) (memory-same _ _ _ _ _ _ c.find_file.ensures.same)
+    over-ok _ _ _ _ _ _ (file_there e.resources c.args.file.now.path.key found.stored at.there found.file) (memory-same _ _ _ _ _ _ _ c.find_file.ensures.same)

@@ -11,7 +11,7 @@ use Rattle.dav_tree.proofs.tree_fs.TreeFs.find_prop.Goals as goal
 pub returns-in_default-clause-answer : goal.returns-in_default-clause-answer
 returns-in_default-clause-answer g c =
     let missing = missing-key _ _ c.find.ensures.same _ _ c.key.ensures.value c.in_default.ensures.found in
-    over-err _ _ _ _ _ _ (ap get_prop_bar (property-missing (memory_of c.args.self.now) c.args.path.now.key (name_of c.args.prop.now) missing)) (memory-same _ _ _ _ _ _ c.find.ensures.same)
+    over-err _ _ _ _ _ _ (ap get_prop_bar (property-missing (memory_of c.args.self.now) c.args.path.now.key (name_of c.args.prop.now) missing)) (memory-same _ _ _ _ _ _ _ c.find.ensures.same)
 
 pub properties-requires : goal.properties-requires
 properties-requires g c = number-again _ _ _ c.find.ensures.same _ _ c.in-Some.ensures.found
@@ -26,10 +26,10 @@ pub returns-in_ok-clone-in-Some-found-clause-answer : goal.returns-in_ok-clone-i
 returns-in_ok-clone-in-Some-found-clause-answer g c =
     let here = found-key _ _ c.find.ensures.same _ _ c.key.ensures.value _ _ c.in-Some.ensures.found in
     let props = c.properties.ensures _ _ (at-again _ _ _ c.find.ensures.same _ _ c.in-Some.ensures.found) in
-    over-ok _ _ _ _ _ _ (ap get_prop_bar (property-kept (memory_of c.args.self.now) c.args.path.now.key (name_of c.args.prop.now) c.in-Some.ensures.found.stored here ∙ ap (λ p. get p (name_of c.args.prop.now)) (sym props) ∙ sym c.in_ok-found.ensures ∙ ap option_copied c.in-Some-found.is)) (memory-same _ _ _ _ _ _ c.find.ensures.same)
+    over-ok _ _ _ _ _ _ (ap get_prop_bar (property-kept (memory_of c.args.self.now) c.args.path.now.key (name_of c.args.prop.now) c.in-Some.ensures.found.stored here ∙ ap (λ p. get p (name_of c.args.prop.now)) (sym props) ∙ sym c.in_ok-found.ensures ∙ ap option_copied c.in-Some-found.is)) (memory-same _ _ _ _ _ _ _ c.find.ensures.same)
 
 pub returns-in-None-clause-answer : goal.returns-in-None-clause-answer
 returns-in-None-clause-answer g c =
     let here = found-key _ _ c.find.ensures.same _ _ c.key.ensures.value _ _ c.in-Some.ensures.found in
     let props = c.properties.ensures _ _ (at-again _ _ _ c.find.ensures.same _ _ c.in-Some.ensures.found) in
-    over-err _ _ _ _ _ _ (ap get_prop_bar (property-kept (memory_of c.args.self.now) c.args.path.now.key (name_of c.args.prop.now) c.in-Some.ensures.found.stored here ∙ ap (λ p. get p (name_of c.args.prop.now)) (sym props) ∙ sym c.in_ok-found.ensures ∙ ap option_copied c.in-None.is)) (memory-same _ _ _ _ _ _ c.find.ensures.same)
+    over-err _ _ _ _ _ _ (ap get_prop_bar (property-kept (memory_of c.args.self.now) c.args.path.now.key (name_of c.args.prop.now) c.in-Some.ensures.found.stored here ∙ ap (λ p. get p (name_of c.args.prop.now)) (sym props) ∙ sym c.in_ok-found.ensures ∙ ap option_copied c.in-None.is)) (memory-same _ _ _ _ _ _ _ c.find.ensures.same)

@@ -11,7 +11,7 @@ use Rattle.dav_tree.proofs.tree_fs.TreeFs.list_props.Goals as goal
 pub returns-in_default-clause-answer : goal.returns-in_default-clause-answer
 returns-in_default-clause-answer g c =
     let missing = missing-key _ _ c.find.ensures.same _ _ c.key.ensures.value c.in_default.ensures.found in
-    over-err _ _ _ _ _ _ (ap (properties_bar true) (node_at c.args.self.now.entries.resources c.args.path.now.key None missing)) (memory-same _ _ _ _ _ _ c.find.ensures.same)
+    over-err _ _ _ _ _ _ (ap (properties_bar true) (node_at c.args.self.now.entries.resources c.args.path.now.key None missing)) (memory-same _ _ _ _ _ _ _ c.find.ensures.same)
 
 pub properties-properties-requires : goal.properties-properties-requires
 properties-properties-requires g c = number-again _ _ _ c.find.ensures.same _ _ c.in-Some.ensures.found
@@ -25,4 +25,4 @@ returns-clause-props g c =
 pub returns-clause-answer : goal.returns-clause-answer
 returns-clause-answer g c =
     let here = found-key _ _ c.find.ensures.same _ _ c.key.ensures.value _ _ c.in-Some.ensures.found in
-    over-ok _ _ _ _ _ _ (ap (properties_bar true) (node_at c.args.self.now.entries.resources c.args.path.now.key (Some c.in-Some.ensures.found.stored) here)) (memory-same _ _ _ _ _ _ c.find.ensures.same)
+    over-ok _ _ _ _ _ _ (ap (properties_bar true) (node_at c.args.self.now.entries.resources c.args.path.now.key (Some c.in-Some.ensures.found.stored) here)) (memory-same _ _ _ _ _ _ _ c.find.ensures.same)

@@ -36,6 +36,7 @@ returns-clause-memory g c = λ tree are.
       moment = 0;
       limit = c.args.limit;
       tag_part = None;
+      marks = false;
       held = (loaded.held ∙ ap (loaded_held m.body_code b) same) i;
     }
 

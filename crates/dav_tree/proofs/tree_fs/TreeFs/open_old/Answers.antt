@@ -38,7 +38,7 @@ returns-in_ok-version-clause-opened g c =
     let e = c.args.self.now.entries in
     let key = c.args.path.now.key in
     over-ok _ _ _ _ _ _ (open_there c.args.options.now key m c.requires.stored c.requires.at.there c.if-options.false (sym c.requires.kind ∙ c.if-place.false) ∙ ap (λ t. if t then change_error None m else None) c.if-options-2.true ∙ c.in_ok-version.ensures.1)
-    (memory-changed c.in_ok-version.version m.moment m.limit m.tag_part e e c.truncate.new.self (change_at key (with_bytes [] c.in_ok-version.version m.moment)) refl (c.truncate.ensures key c.requires.at.numbered)
+    (memory-changed c.in_ok-version.version m.moment m.limit m.tag_part m.marks e e c.truncate.new.self (change_at key (with_bytes [] c.in_ok-version.version m.moment)) refl (c.truncate.ensures key c.requires.at.numbered)
     ∙ ap (λ v. record m { resources = change_at key (with_bytes [] v m.moment) m.resources; version = v }) c.in_ok-version.ensures.0
     ∙ sym (opened-at c.args.options.now key m (Some c.requires.stored) c.requires.at.there ∙ ap (λ t. if t then filled key [] m else m) c.if-options-2.true))
 

@@ -10,7 +10,7 @@ use Rattle.dav_tree.proofs.tree_fs.TreeFs.patch.Goals as goal
 pub returns-in_default-clause-patched : goal.returns-in_default-clause-patched
 returns-in_default-clause-patched g c =
     let missing = missing-key _ _ c.find.ensures.same _ _ c.key.ensures.value c.in_default.ensures.found in
-    over-err _ _ _ _ _ _ (ap (properties_bar true) (node_at c.args.self.now.entries.resources c.args.path.now.key None missing)) (memory-same _ _ _ _ _ _ c.find.ensures.same)
+    over-err _ _ _ _ _ _ (ap (properties_bar true) (node_at c.args.self.now.entries.resources c.args.path.now.key None missing)) (memory-same _ _ _ _ _ _ _ c.find.ensures.same)
 
 pub patch-requires : goal.patch-requires
 patch-requires g c = number-again _ _ _ c.find.ensures.same _ _ c.in-Some.ensures.found
@@ -31,4 +31,4 @@ returns-clause-patched g c =
     let here = found-key _ _ c.find.ensures.same key _ c.key.ensures.value _ _ c.in-Some.ensures.found in
     let at = at-key c.args.self.now.entries c.find.new.self c.find.ensures.same key _ c.key.ensures.value _ _ c.in-Some.ensures.found.at in
     over-ok _ _ _ _ _ _ (ap (properties_bar true) (node_at c.args.self.now.entries.resources key (Some c.in-Some.ensures.found.stored) here))
-    (memory-changed _ _ _ _ c.args.self.now.entries c.find.new.self c.patch.new.self (change_at key (λ s. with_properties (patched c.args.patches.now s.properties) s)) c.find.ensures.same (c.in_ok-patch.ensures.ok key at.numbered))
+    (memory-changed _ _ _ _ _ c.args.self.now.entries c.find.new.self c.patch.new.self (change_at key (λ s. with_properties (patched c.args.patches.now s.properties) s)) c.find.ensures.same (c.in_ok-patch.ensures.ok key at.numbered))

@@ -9,13 +9,13 @@ use Rattle.dav_tree.proofs.tree_fs.TreeFs.read_file.Goals as goal
 pub returns-in_default-clause-answer : goal.returns-in_default-clause-answer
 returns-in_default-clause-answer g c =
     let missing = missing-key _ _ c.find.ensures.same _ _ c.key.ensures.value c.in_default.ensures.found in
-    over-err _ _ _ _ _ _ (ap must_be_file (node_at c.args.self.now.entries.resources c.args.path.now.key None missing)) (memory-same _ _ _ _ _ _ c.find.ensures.same)
+    over-err _ _ _ _ _ _ (ap must_be_file (node_at c.args.self.now.entries.resources c.args.path.now.key None missing)) (memory-same _ _ _ _ _ _ _ c.find.ensures.same)
 
 pub returns-then-found-clause-answer : goal.returns-then-found-clause-answer
 returns-then-found-clause-answer g c =
     let found = c.in-Some.ensures.found in
     let here = found-key _ _ c.find.ensures.same _ _ c.key.ensures.value _ _ found in
-    over-err _ _ _ _ _ _ (ap must_be_file (directory_at c.args.self.now.entries.resources c.args.path.now.key found.stored here (sym found.kind ∙ c.if-found.true))) (memory-same _ _ _ _ _ _ c.find.ensures.same)
+    over-err _ _ _ _ _ _ (ap must_be_file (directory_at c.args.self.now.entries.resources c.args.path.now.key found.stored here (sym found.kind ∙ c.if-found.true))) (memory-same _ _ _ _ _ _ _ c.find.ensures.same)
 
 pub read-requires : goal.read-requires
 read-requires g c = file-again _ _ _ c.find.ensures.same _ _ c.in-Some.ensures.found c.if-found.false
@@ -40,7 +40,7 @@ pub returns-clause-answer : goal.returns-clause-answer
 returns-clause-answer g c =
     let found = c.in-Some.ensures.found in
     let here = found-key _ _ c.find.ensures.same _ _ c.key.ensures.value _ _ found in
-    let kept = both-ways c.read.result (memory-unchanged c.args.self.now.version c.args.self.now.moment c.args.self.now.limit c.args.self.now.tag_part c.args.self.now.entries c.find.new.self c.read.new.self c.find.ensures.same c.read.ensures.same) in
+    let kept = both-ways c.read.result (memory-unchanged c.args.self.now.version c.args.self.now.moment c.args.self.now.limit c.args.self.now.tag_part c.args.self.now.marks_parents c.args.self.now.entries c.find.new.self c.read.new.self c.find.ensures.same c.read.ensures.same) in
     over-either _ _ _ _ _ c.read.result (ap must_be_file (file_at c.args.self.now.entries.resources c.args.path.now.key found.stored here (sym found.kind ∙ c.if-found.false))) kept.0 kept.1 c.read.ensures.err
 
 pub returns-in_default-clause-cause : goal.returns-in_default-clause-cause

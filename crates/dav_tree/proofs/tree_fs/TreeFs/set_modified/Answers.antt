@@ -10,7 +10,7 @@ use Rattle.dav_tree.proofs.Modifying.{sets-modified}
 use Rattle.dav_tree.proofs.tree_fs.TreeFs.set_modified.Goals as goal
 
 pub returns-in_default-clause-err : goal.returns-in_default-clause-err
-returns-in_default-clause-err g c = memory-same _ _ _ _ _ _ c.find.ensures.same
+returns-in_default-clause-err g c = memory-same _ _ _ _ _ _ _ c.find.ensures.same
 
 pub returns-in_default-clause-cause : goal.returns-in_default-clause-cause
 returns-in_default-clause-cause g c =
@@ -35,10 +35,10 @@ returns-clause-seen g c =
     let here = found-key _ _ c.find.ensures.same key _ c.key.ensures.value _ _ c.in-Some.ensures.found in
     let at = at-key c.args.self.now.entries c.find.new.self c.find.ensures.same key _ c.key.ensures.value _ _ c.in-Some.ensures.found.at in
     sets-modified (memory_of c.args.self.now) key c.args.time c.in-Some.ensures.found.stored here _ (map logged_of c.args.self.now.log.items)
-    (memory-changed _ _ _ _ c.args.self.now.entries c.find.new.self c.set_modified.new.self (change_at key (with_modified c.args.time)) c.find.ensures.same (c.set_modified.ensures key at.numbered))
+    (memory-changed _ _ _ _ _ c.args.self.now.entries c.find.new.self c.set_modified.new.self (change_at key (with_modified c.args.time)) c.find.ensures.same (c.set_modified.ensures key at.numbered))
 
 pub returns-clause-memory : goal.returns-clause-memory
 returns-clause-memory g c =
     let key = c.args.path.now.key in
     let at = at-key c.args.self.now.entries c.find.new.self c.find.ensures.same key _ c.key.ensures.value _ _ c.in-Some.ensures.found.at in
-    memory-changed _ _ _ _ c.args.self.now.entries c.find.new.self c.set_modified.new.self (change_at key (with_modified c.args.time)) c.find.ensures.same (c.set_modified.ensures key at.numbered)
+    memory-changed _ _ _ _ _ c.args.self.now.entries c.find.new.self c.set_modified.new.self (change_at key (with_modified c.args.time)) c.find.ensures.same (c.set_modified.ensures key at.numbered)

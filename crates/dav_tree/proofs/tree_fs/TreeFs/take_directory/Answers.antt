@@ -1,41 +1,45 @@
 use Rattle.std.proofs.Common.{◌≡◌, ◌≢◌, ◌∙◌, ◌==◌, ◌++◌, ◌∷◌, [], not, length, ap, sym, true, false}
 use Rattle.std.specs.FinMap.{get, remove}
+use Rattle.dav_key.specs.Key.{parent}
 use Rattle.dav_store.specs.Members.{members}
-use Rattle.dav_tree.specs.Memory.{tree_of}
+use Rattle.dav_tree.specs.Memory.{tree_of, marked}
+use Rattle.dav_tree.specs.MemoryCalls.{mark_error}
+use Rattle.dav_tree.specs.TreeFs.{memory_of}
 use Rattle.dav_tree.proofs.Sound.{sound-directory}
-use Rattle.dav_tree.proofs.Rows.{remove_dir_missing, remove_dir_file, remove_dir_full, remove_dir_free, no_names}
-use Rattle.dav_tree.proofs.Places.{at-again, some-number, not-true, not-false, missing-key, found-key, directory-childless}
+use Rattle.dav_tree.proofs.Marking.{room-error, room-free, parent-apart}
+use Rattle.dav_tree.proofs.Rows.{remove_dir_missing, remove_dir_file, remove_dir_full, remove_dir_free, no_names, some_node}
+use Rattle.dav_tree.proofs.Places.{at-again, some-number, not-true, not-false, missing-key, found-key, directory-childless, number-above, no-directory-above}
 use Rattle.dav_tree.proofs.Effects.{over-ok, over-err, memory-same, memory-changed, sound-changed}
 use Rattle.dav_tree.proofs.tree_fs.TreeFs.take_directory.Goals as goal
 
 pub returns-in_default-clause-removed : goal.returns-in_default-clause-removed
 returns-in_default-clause-removed g c =
     let missing = missing-key _ _ c.find.ensures.same _ _ c.key.ensures.value c.in_default.ensures.found in
-    over-err _ _ _ _ _ _ (remove_dir_missing c.args.self.now.entries.resources c.args.path.now.key missing) (memory-same _ _ _ _ _ _ c.find.ensures.same)
+    over-err _ _ _ _ _ _ (ap (λ b. mark_error 1 b (memory_of c.args.self.now)) (remove_dir_missing c.args.self.now.entries.resources c.args.path.now.key missing)) (memory-same _ _ _ _ _ _ _ c.find.ensures.same)
 
 pub returns-then-not-place-clause-removed : goal.returns-then-not-place-clause-removed
 returns-then-not-place-clause-removed g c =
     let found = c.in-Some.ensures.found in
     let here = found-key _ _ c.find.ensures.same _ _ c.key.ensures.value _ _ found in
-    over-err _ _ _ _ _ _ (remove_dir_file c.args.self.now.entries.resources c.args.path.now.key found.stored here (sym found.kind ∙ not-true _ c.if-not-place.true)) (memory-same _ _ _ _ _ _ c.find.ensures.same)
+    over-err _ _ _ _ _ _ (ap (λ b. mark_error 1 b (memory_of c.args.self.now)) (remove_dir_file c.args.self.now.entries.resources c.args.path.now.key found.stored here (sym found.kind ∙ not-true _ c.if-not-place.true))) (memory-same _ _ _ _ _ _ _ c.find.ensures.same)
 
 pub returns-then-has_members-clause-removed : goal.returns-then-has_members-clause-removed
 returns-then-has_members-clause-removed g c =
     let found = c.in-Some.ensures.found in
     let here = found-key _ _ c.find.ensures.same _ _ c.key.ensures.value _ _ found in
     let below : c.args.path.now.key ≢ [] = λ root. (let clash : true ≡ false = sym (c.is_root.ensures.1 (c.key-2.ensures.value ∙ root)) ∙ c.if-is_root.false in cc) in
-    over-err _ _ _ _ _ _ (remove_dir_full c.args.self.now.entries.resources c.args.path.now.key found.stored here (sym found.kind ∙ not-false _ c.if-not-place.false) below
-    (sym (c.has_members.ensures ∙ (λ i. not (length (members (tree_of (c.find.ensures.same i).resources) (c.key-3.ensures.value i)) == 0))) ∙ c.if-has_members.true)) (memory-same _ _ _ _ _ _ c.find.ensures.same)
+    over-err _ _ _ _ _ _ (ap (λ b. mark_error 1 b (memory_of c.args.self.now)) (remove_dir_full c.args.self.now.entries.resources c.args.path.now.key found.stored here (sym found.kind ∙ not-false _ c.if-not-place.false) below
+    (sym (c.has_members.ensures ∙ (λ i. not (length (members (tree_of (c.find.ensures.same i).resources) (c.key-3.ensures.value i)) == 0))) ∙ c.if-has_members.true))) (memory-same _ _ _ _ _ _ _ c.find.ensures.same)
 
 pub remove-requires-clause-there : goal.remove-requires-clause-there
 remove-requires-clause-there g c =
     let at = at-again _ _ _ c.find.ensures.same _ _ c.in-Some.ensures.found in
-    some-number c.find.new.self _ _ (ap (get c.find.new.self.numbers) (c.key-4.ensures.value ∙ sym c.key.ensures.value) ∙ at.numbered)
+    some-number c.find.new.self _ _ (ap (get c.find.new.self.numbers) (c.key-5.ensures.value ∙ sym c.key.ensures.value) ∙ at.numbered)
 
 pub remove-requires-clause-childless : goal.remove-requires-clause-childless
 remove-requires-clause-childless g c = λ name.
     let none = no_names _ (sym (c.has_members.ensures ∙ (λ i. not (length (members (tree_of (c.find.ensures.same i).resources) (c.key-3.ensures.value i)) == 0))) ∙ c.if-has_members.false) in
-    (λ i. get (c.find.ensures.same i).resources (c.key-4.ensures.value i ++ name ∷ []))
+    (λ i. get (c.find.ensures.same i).resources (c.key-5.ensures.value i ++ name ∷ []))
     ∙ directory-childless c.args.self.now.entries.resources c.args.path.now.key none name
 
 pub invariant_of-self-2 : goal.invariant_of-self-2
@@ -46,15 +50,47 @@ invariant_of-self-2 g c =
     record {
       sound = sound-changed c.args.self.now.entries c.find.new.self c.remove.new.self c.find.ensures.same c.args.self.now.sound (λ r. remove r key)
           (λ new is. sound-directory c.args.self.now.entries.resources new key c.args.self.now.sound is below none)
-          (rw c.key-4.ensures.value at c.remove.ensures);
+          (rw c.key-5.ensures.value at c.remove.ensures.removed);
     }
+
+pub unreachable-requires : goal.unreachable-requires
+unreachable-requires g c =
+    let e = c.args.self.now.entries in
+    let key = c.args.path.now.key in
+    let here = found-key _ _ c.find.ensures.same _ _ c.key.ensures.value _ _ c.in-Some.ensures.found in
+    no-directory-above e c.find.new.self c.find.ensures.same key _ c.key-4.ensures.value c.in_default-directory_above.ensures (c.args.self.now.sound.parents key (some_node e.resources key c.in-Some.ensures.found.stored here))
+
+pub returns-then-not-has_room-clause-removed : goal.returns-then-not-has_room-clause-removed
+returns-then-not-has_room-clause-removed g c =
+    let m = memory_of c.args.self.now in
+    let key = c.args.path.now.key in
+    let found = c.in-Some.ensures.found in
+    let here = found-key _ _ c.find.ensures.same _ _ c.key.ensures.value _ _ found in
+    let below : key ≢ [] = λ root. (let clash : true ≡ false = sym (c.is_root.ensures.1 (c.key-2.ensures.value ∙ root)) ∙ c.if-is_root.false in cc) in
+    let none = no_names _ (sym (c.has_members.ensures ∙ (λ i. not (length (members (tree_of (c.find.ensures.same i).resources) (c.key-3.ensures.value i)) == 0))) ∙ c.if-has_members.false) in
+    over-err _ _ _ _ _ _ (ap (λ b. mark_error 1 b m) (remove_dir_free m.resources key found.stored here (sym found.kind ∙ not-false _ c.if-not-place.false) below none)
+    ∙ room-error 1 m c.has_room.result c.has_room.ensures c.if-not-has_room.true) (memory-same _ _ _ _ _ _ _ c.find.ensures.same)
+
+pub mark-requires-clause-there : goal.mark-requires-clause-there
+mark-requires-clause-there g c =
+    let e = c.args.self.now.entries in
+    let key = c.args.path.now.key in
+    let below : key ≢ [] = λ root. (let clash : true ≡ false = sym (c.is_root.ensures.1 (c.key-2.ensures.value ∙ root)) ∙ c.if-is_root.false in cc) in
+    let above = number-above e c.find.new.self c.find.ensures.same key _ c.key-4.ensures.value _ c.in-Some-directory_above.ensures in
+    (parent key, c.remove.ensures.numbers (parent key) _ (rw c.key-5.ensures.value (parent-apart key below)) above)
 
 pub returns-clause-removed : goal.returns-clause-removed
 returns-clause-removed g c =
+    let m = memory_of c.args.self.now in
+    let e = c.args.self.now.entries in
+    let key = c.args.path.now.key in
     let found = c.in-Some.ensures.found in
     let here = found-key _ _ c.find.ensures.same _ _ c.key.ensures.value _ _ found in
-    let key = c.args.path.now.key in
     let below : key ≢ [] = λ root. (let clash : true ≡ false = sym (c.is_root.ensures.1 (c.key-2.ensures.value ∙ root)) ∙ c.if-is_root.false in cc) in
     let none = no_names _ (sym (c.has_members.ensures ∙ (λ i. not (length (members (tree_of (c.find.ensures.same i).resources) (c.key-3.ensures.value i)) == 0))) ∙ c.if-has_members.false) in
-    over-ok _ _ _ _ _ _ (remove_dir_free c.args.self.now.entries.resources key found.stored here (sym found.kind ∙ not-false _ c.if-not-place.false) below none)
-    (memory-changed _ _ _ _ c.args.self.now.entries c.find.new.self c.remove.new.self (λ r. remove r key) c.find.ensures.same (rw c.key-4.ensures.value at c.remove.ensures))
+    let above = number-above e c.find.new.self c.find.ensures.same key _ c.key-4.ensures.value _ c.in-Some-directory_above.ensures in
+    let number = c.remove.ensures.numbers (parent key) _ (rw c.key-5.ensures.value (parent-apart key below)) above in
+    over-ok _ _ _ _ _ _ (ap (λ b. mark_error 1 b m) (remove_dir_free e.resources key found.stored here (sym found.kind ∙ not-false _ c.if-not-place.false) below none)
+    ∙ room-free 1 m c.has_room.result c.has_room.ensures c.if-not-has_room.false)
+    (c.mark.ensures.marked (parent key) number ∙ ap (marked (parent key))
+    (memory-changed _ _ _ _ _ e c.find.new.self c.remove.new.self (λ r. remove r key) c.find.ensures.same (rw c.key-5.ensures.value at c.remove.ensures.removed)))

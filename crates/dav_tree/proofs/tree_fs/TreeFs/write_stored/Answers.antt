@@ -21,7 +21,7 @@ returns-in_err-version-clause-written g c =
     let e = c.args.self.now.entries in
     let found = c.in_ok-number.ensures.found in
     let at = at-key e e refl c.args.file.now.path.key _ c.key.ensures.value _ _ found.at in
-    over-exit _ _ _ _ _ _ _ c.from_residual-in_err-version.ensures.1 (ap (λ b. change_error b (memory_of c.args.self.now)) (file_there e.resources c.args.file.now.path.key found.stored at.there found.file) ∙ c.in_err-version.ensures) (memory-same _ _ _ _ _ _ c.find_file.ensures.same)
+    over-exit _ _ _ _ _ _ _ c.from_residual-in_err-version.ensures.1 (ap (λ b. change_error b (memory_of c.args.self.now)) (file_there e.resources c.args.file.now.path.key found.stored at.there found.file) ∙ c.in_err-version.ensures) (memory-same _ _ _ _ _ _ _ c.find_file.ensures.same)
 
 pub write_stored-requires-clause-file : goal.write_stored-requires-clause-file
 write_stored-requires-clause-file g c =
@@ -72,7 +72,7 @@ returns-clause-written g c =
     let at = at-key e c.find_file.new.self c.find_file.ensures.same key _ c.key.ensures.value _ _ found.at in
     let place = c.place_in-place.ensures.value _ _ at ∙ place-is m c.args.file.now found.stored here.there found.file in
     over-ok _ _ _ _ _ _ (ap (λ b. change_error b m) (file_there e.resources key found.stored here.there found.file) ∙ c.in_ok-version.ensures.1)
-    (memory-changed c.in_ok-version.version m.moment m.limit m.tag_part e c.find_file.new.self c.write_stored.new.self (change_at key (wrote c.place_in-place.result (stored_bytes (held_of c.args.self.now.entries).bodies c.args.body) c.in_ok-version.version m.moment)) c.find_file.ensures.same (subst (λ (k : Kept). Has (change_at key (wrote c.place_in-place.result (stored_bytes (held_of k).bodies c.args.body) c.in_ok-version.version c.args.self.now.moment) c.find_file.new.self.resources) (held_of c.find_file.new.self) c.write_stored.new.self) c.find_file.ensures.same (c.in_ok-write_stored.ensures.ok key at.numbered))
+    (memory-changed c.in_ok-version.version m.moment m.limit m.tag_part m.marks e c.find_file.new.self c.write_stored.new.self (change_at key (wrote c.place_in-place.result (stored_bytes (held_of c.args.self.now.entries).bodies c.args.body) c.in_ok-version.version m.moment)) c.find_file.ensures.same (subst (λ (k : Kept). Has (change_at key (wrote c.place_in-place.result (stored_bytes (held_of k).bodies c.args.body) c.in_ok-version.version c.args.self.now.moment) c.find_file.new.self.resources) (held_of c.find_file.new.self) c.write_stored.new.self) c.find_file.ensures.same (c.in_ok-write_stored.ensures.ok key at.numbered))
     ∙ filled-is m key (written_at (bytes_at (Some found.stored.node)) c.place_in-place.result (stored_bytes (held_of c.args.self.now.entries).bodies c.args.body)) _ c.in_ok-version.version (change_to e.resources key found.stored _ _ here.there refl) c.in_ok-version.ensures.0
     ∙ (λ i. filled key (written_at (bytes-are e.resources key found.stored here.there i) (place i) (stored_bytes (held_of c.args.self.now.entries).bodies c.args.body)) m))
 
