@@ -93,6 +93,7 @@ pub fn read_files<D: Disk, E: Disk + Drop, C: Confirm>(
         → IfOk result (λ found. AreClean D.Disk files.new.log files.new.db → found.version ≡ Older) }
     ensures keyed { IfOk result (λ found. IsKeyed C.Claim found.key) }
     ensures tags { IfOk result (λ found. (memory_of found.store).tag_part ≡ tag_part) }
+    ensures marks { IfOk result (λ found. (memory_of found.store).marks ≡ true) }
     ensures log { IfOk result (λ found. (store_of found.store).log ≡ []) }
     ensures sound { IfOk result (λ _. AreClean D.Disk files.new.log files.new.db → ¬ IsDamaged (image_of D.Disk files.old).log) }
     ensures only { AreOnlyRead D.Disk files.old files.new }

@@ -41,8 +41,8 @@ pub struct Found<M: Medium> {
 }
 
 /// Reads the store of a folder from these rows of its database, over its data file. `limit` is the store's quota, and
-/// `tag_part` the part of its entity tags that comes before the version, if there is one. The contents of the data file stay
-/// the same. The rows have the seal that was kept with them, unless they are of version 1, which has none.
+/// `tag_part` the part of its entity tags that comes before the version, if there is one. The store marks each directory that
+/// gains or loses a member. The contents of the data file stay the same. The rows have the seal that was kept with them, unless they are of version 1, which has none.
 ///
 /// - `Damaged`: the rows are not those of a store that was kept, or have another seal, or are others than those that are
 ///   claimed.
@@ -67,6 +67,7 @@ pub fn read_store<D: Disk + Drop, C: Confirm>(
     ensures limit { (image : Image) (tables : Contents) → AreRowsOfImage rows image tables → IfOk result (λ found. (memory_of found.store).limit ≡ limit) }
     ensures keyed { IfOk result (λ found. IsKeyed C.Claim found.key) }
     ensures tags { IfOk result (λ found. (memory_of found.store).tag_part ≡ tag_part) }
+    ensures marks { IfOk result (λ found. (memory_of found.store).marks ≡ true) }
     ensures sealed { version ≢ Older → IfOk result (λ found. AreSealed found.key rows) }
     ensures rows { IfOk result (λ found. found.rows ≡ row_count rows) }
     ensures version { IfOk result (λ found. found.version ≡ version) }
@@ -97,6 +98,7 @@ pub fn read_store<D: Disk + Drop, C: Confirm>(
         Err((error, medium)) => return Err((error.into(), DataLeft::File(medium))),
     };
     store.set_tag_part(tag_part);
+    store.set_marks_parents(true);
     store.show_sound();
     Ok(Found {
         known,

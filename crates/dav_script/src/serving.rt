@@ -39,14 +39,17 @@ pub struct Session<'a> {
 
 impl<'a> Session<'a> {
     /// Creates a session before its first block. The store holds only the root, at time 0, and refuses
-    /// nothing. There is no lock. Requests have paths below the prefix. Fails only if memory runs out.
+    /// nothing. In the profile `Standard` it marks directories that gain or lose a member. There is no lock. Requests
+    /// have paths below the prefix. Fails only if memory runs out.
     pub fn new(alloc: Global, profile: Profile, prefix: &'a str) -> Result<Session<'a>, Stopped>
         ensures { IfOk result (λ session. shared_by session ≡ first_shared profile prefix.now) }
     {
+        let mut store = MemFs::new(alloc)?;
+        store.set_marks_parents(matches!(profile, Profile::Standard));
         Ok(Session {
             profile,
             prefix,
-            store: Refusing::new(alloc, MemFs::new(alloc)?),
+            store: Refusing::new(alloc, store),
             locks: MemLs::new(alloc),
             blocks: 0,
             now: 0,
@@ -139,9 +142,11 @@ impl<'a> Session<'a> {
         self.store.inner_mut().set_now(now);
     }
 
-    /// Replaces the store with another one, which refuses nothing. The time and the locks stay.
+    /// Replaces the store with another one, which refuses nothing, and marks directories as the one before did. The time
+    /// and the locks stay.
     pub fn set_store(&mut self, alloc: Global, mut store: MemFs) {
         store.set_now(self.now);
+        store.set_marks_parents(matches!(self.profile, Profile::Standard));
         self.store = Refusing::new(alloc, store);
     }
 

@@ -234,7 +234,7 @@ module _ {D E C : Type 0} {d : disk.Ghosts D} {e : disk.Ghosts E} {c : claim.Gho
     (opened : Opened (FileStore D d) (ClaimedFile E C e c) (List Piece) rows g) (files : FileStore D d × ClaimedFile E C e c) where
   -- `left` and `file` are what the files held
   module _ (left : database.Image) (file : List ℕ) (start : StartOptions) (finds : FindsKept left file start.quota opened) (finds_new : FindsFirst left file start.quota start.key opened) (held_sealed : HeldSealed left opened)
-      (tagged : (memory_of opened.store).tag_part ≡ start.tag_part) (keyed : IsKeyed c opened.key)
+      (tagged : (memory_of opened.store).tag_part ≡ start.tag_part) (marks : (memory_of opened.store).marks ≡ true) (keyed : IsKeyed c opened.key)
       (was_clean : IsClean (view files.0) → HasCleanDatabase opened.folder) where
     lasts_at_start : HeldAStore left file files → IsOpenedAsKept opened
     lasts_at_start (clean, inl (held, hold)) = (finds held hold (was_clean clean)).lasts
@@ -251,6 +251,7 @@ module _ {D E C : Type 0} {d : disk.Ghosts D} {e : disk.Ghosts E} {c : claim.Gho
       empty = λ clean vacant. finds_new.empty vacant (was_clean clean);
       limit = limit_at_start;
       tags = tagged;
+      marks = marks;
       key = opened.key;
       sealed = λ tables clean keeps. held_sealed tables keeps (was_clean clean);
       keyed = λ clean vacant. finds_new.keyed vacant (was_clean clean);

@@ -124,7 +124,8 @@ module _ {D E C : Type 0} {d : disk.Ghosts D} {e : disk.Ghosts E} {c : claim.Gho
   abbrev pub HeldAStore : Type 0
   HeldAStore = IsClean (view files.0) × (((kept : KeptStore) × Hold c left file kept) ⊎ IsVacant left)
 
-  -- A run begins with what the files held, or with a new store if they had no table, and with this quota and this part of the entity tags. A new store is
+  -- A run begins with what the files held, or with a new store if they had no table, and with this quota and this part of the entity tags. The
+  -- store marks each directory that gains or loses a member. A new store is
   -- one whose data file had no byte, if the data file is honest. The tables that the files held are sealed under the key that the run has, which is the drawn
   -- one for a new store, and that of the claim, if it holds.
   pub record BeginsWith (start : StartOptions) {g : Ghosts (ClaimedFile E C e c) (List Piece)} (first : At g) : Type 0 where
@@ -133,6 +134,7 @@ module _ {D E C : Type 0} {d : disk.Ghosts D} {e : disk.Ghosts E} {c : claim.Gho
     pub empty : IsClean (view files.0) → IsVacant left → honest_of first.store ≡ true → file ≡ []
     pub limit : HeldAStore → (memory_of first.store).limit ≡ option_map Some start.quota
     pub tags : (memory_of first.store).tag_part ≡ start.tag_part
+    pub marks : (memory_of first.store).marks ≡ true
     pub key : ℕ
     pub sealed : (tables : Contents) → IsClean (view files.0) → Keeps left tables → IsSealed key tables
     pub keyed : IsClean (view files.0) → IsVacant left → key ≡ start.key

@@ -29,11 +29,11 @@ use Rattle.davd.specs.declared.program.Stopped.TheVariants.{Usage, Stream, Memor
 -- ---- runs in memory
 
 -- a run by these rules, which begins with a store that has only its root, with this quota and this part of the entity tags, without locks, at time 0 and
--- before batch 1
+-- before batch 1; the store marks each directory that gains or loses a member
 pub record ServesInMemory {M B : Type 0} (medium : Ghosts M B) (rules : Rules) (quota tag_part : Option ℕ) (input input' output output' : Option (List ℕ)) : Type 0 where
   pub store : TreeFs M B medium
   pub locks : MemLs
-  pub empty : memory_of store ≡ record (first_memory 0 (option_map Some quota)) { tag_part = tag_part }
+  pub empty : memory_of store ≡ record (first_memory 0 (option_map Some quota)) { tag_part = tag_part; marks = true }
   pub unlocked : list_of locks ≡ []
   pub final : ServerState
   pub runs : Runs (store_of {g = medium}) reads_of rules (first_state (store_of store) (locks_of locks)) final input input' output output'

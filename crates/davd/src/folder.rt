@@ -183,6 +183,7 @@ pub fn open_folder<R: Start, T: Start, N: Start, C: Confirm>(
     ensures sealed { IfOk result (λ found. HeldSealed (image_at R.Start) found.0) }
     ensures keyed { IfOk result (λ found. IsKeyed C.Claim found.0.key) }
     ensures tags { IfOk result (λ found. (memory_of found.0.store).tag_part ≡ options.tag_part) }
+    ensures marks { IfOk result (λ found. (memory_of found.0.store).marks ≡ true) }
     ensures last { IfOk result (λ found. number_of found.1 ≡ batch_of found.0.folder) }
     ensures key { IfOk result (λ found. key_of found.1 ≡ found.0.key) }
     ensures named { IfOk result (λ found. Names (batch_of found.0.folder) found.1) }
@@ -271,6 +272,7 @@ fn open_pairs<R: Start, T: Start, L: Disk, C: Confirm>(
     ensures sealed { IfOk result (HeldSealed (image_at R.Start)) }
     ensures keyed { IfOk result (λ opened. IsKeyed C.Claim opened.key) }
     ensures tags { IfOk result (λ opened. (memory_of opened.store).tag_part ≡ how.tag_part) }
+    ensures marks { IfOk result (λ opened. (memory_of opened.store).marks ≡ true) }
     ensures batch { IfOk result (λ opened. batch_of opened.folder ≡ opened.last) }
     ensures up_to_date { IfOk result (λ opened. how.accepts_loss ≡ false → AreClean L.Disk last.new.log last.new.db
         → IsNotOlder opened.key opened.last (L.Disk.seen last.old.log) (L.Disk.seen last.old.db)) }
@@ -355,6 +357,7 @@ fn open_over<D: Disk + Drop, E: Disk + Drop, L: Disk, C: Confirm>(
     ensures sealed { IfOk result (HeldSealed (image_of D.Disk pairs.0)) }
     ensures keyed { IfOk result (λ opened. IsKeyed C.Claim opened.key) }
     ensures tags { IfOk result (λ opened. (memory_of opened.store).tag_part ≡ how.tag_part) }
+    ensures marks { IfOk result (λ opened. (memory_of opened.store).marks ≡ true) }
     ensures batch { IfOk result (λ opened. batch_of opened.folder ≡ opened.last) }
     ensures up_to_date { IfOk result (λ opened. how.accepts_loss ≡ false → AreClean L.Disk last.new.log last.new.db
         → IsNotOlder opened.key opened.last (L.Disk.seen last.old.log) (L.Disk.seen last.old.db)) }
@@ -496,6 +499,7 @@ fn read_up_to_date<D: Disk, E: Disk + Drop, L: Disk, C: Confirm>(
         → IfOk result (λ found. AreClean D.Disk files.new.log files.new.db → IsSealed found.key tables) }
     ensures keyed { IfOk result (λ found. IsKeyed C.Claim found.key) }
     ensures tags { IfOk result (λ found. (memory_of found.store).tag_part ≡ how.tag_part) }
+    ensures marks { IfOk result (λ found. (memory_of found.store).marks ≡ true) }
     ensures only { AreOnlyRead D.Disk files.old files.new }
     ensures up_to_date { IfOk result (λ found. how.accepts_loss ≡ false → AreClean L.Disk last.new.log last.new.db
         → IsNotOlder found.key found.last (L.Disk.seen last.old.log) (L.Disk.seen last.old.db)) }

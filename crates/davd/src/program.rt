@@ -221,15 +221,16 @@ fn serve_in_memory<I: Read, O: Write>(
 }
 
 /// Creates a store that holds only the root, with this quota or without one, and with this part of the entity tags or
-/// without one. Fails only if memory runs out.
+/// without one. It marks each directory that gains or loses a member. Fails only if memory runs out.
 fn new_store(alloc: Global, quota: Option<u64>, tag_part: Option<u128>) -> FsResult<MemFs>
-    ensures { IfOk result (λ store. memory_of store ≡ record (first_memory 0 (option_map Some quota)) { tag_part = tag_part }) }
+    ensures { IfOk result (λ store. memory_of store ≡ record (first_memory 0 (option_map Some quota)) { tag_part = tag_part; marks = true }) }
 {
     let mut store = match quota {
         Some(bytes) => MemFs::with_quota(alloc, Some(bytes))?,
         None => MemFs::new(alloc)?,
     };
     store.set_tag_part(tag_part);
+    store.set_marks_parents(true);
     Ok(store)
 }
 

@@ -9,7 +9,7 @@ returns-clause-served g c =
     let served = c.serve_to_the_end in
     let opened = c.in_ok-opened in
     on_ok served.result.0 served.ensures.served
-    (goes_on (rules_for c.args.options.server) opened.opened served.result.1 (image_at g.R.Start) g.T.Start.db c.args.options.start opened.ensures.kept opened.ensures.new opened.ensures.sealed opened.ensures.tags opened.ensures.keyed
+    (goes_on (rules_for c.args.options.server) opened.opened served.result.1 (image_at g.R.Start) g.T.Start.db c.args.options.start opened.ensures.kept opened.ensures.new opened.ensures.sealed opened.ensures.tags opened.ensures.marks opened.ensures.keyed
     served.ensures.clean (image_at g.N.Start) opened.last served.result.2 served.ensures.calm (served.ensures.key ∙ opened.ensures.key) opened.ensures.up_to_date opened.ensures.numbered _ _ _ _)
 
 pub returns-clause-stopped : goal.returns-clause-stopped
@@ -18,10 +18,10 @@ returns-clause-stopped g c =
     let opened = c.in_ok-opened in
     on_err served.result.0 served.ensures.stopped (λ either. elim either [
       | inl stops ↦ inl (goes_on_and_stops (rules_for c.args.options.server) opened.opened served.result.1 (image_at g.R.Start) g.T.Start.db c.args.options.start
-          opened.ensures.kept opened.ensures.new opened.ensures.sealed opened.ensures.tags opened.ensures.keyed served.ensures.clean
+          opened.ensures.kept opened.ensures.new opened.ensures.sealed opened.ensures.tags opened.ensures.marks opened.ensures.keyed served.ensures.clean
           (image_at g.N.Start) opened.last served.result.2 served.ensures.calm (served.ensures.key ∙ opened.ensures.key) opened.ensures.up_to_date opened.ensures.numbered _ _ stops)
       | inr runs ↦ inr (goes_on_with_log (rules_for c.args.options.server) opened.opened served.result.1 (image_at g.R.Start) g.T.Start.db c.args.options.start
-          opened.ensures.kept opened.ensures.new opened.ensures.sealed opened.ensures.tags opened.ensures.keyed served.ensures.clean
+          opened.ensures.kept opened.ensures.new opened.ensures.sealed opened.ensures.tags opened.ensures.marks opened.ensures.keyed served.ensures.clean
           (image_at g.N.Start) opened.last served.result.2 served.ensures.calm (served.ensures.key ∙ opened.ensures.key) opened.ensures.up_to_date opened.ensures.numbered _ _ _ _ runs)
     ])
 
