@@ -1,5 +1,7 @@
-"""What no script of `davrun` shows: whether a connection must be closed, the levels of a body, and deep trees."""
+"""What no script of `davrun` shows: which connections must be closed, the levels of a body, deep trees, and that a batch which
+changes nothing writes nothing."""
 import pathlib
+import tempfile
 
 import davd
 import frames
@@ -129,10 +131,39 @@ def try_depth(program: pathlib.Path):
         raise Wrong(f"statuses {sorted(set(got[:DEPTH]))} and {got[DEPTH:]}, and not 201 and 201, 200, 204, 404")
 
 
+# ---- batches that change nothing
+
+CHANGING = (request("PUT", "/a"), request("LOCK", "/l", body=LOCK, token="urn:t"))
+IDLE = (
+    request("PROPFIND", "/", (("Depth", "1"),), None),
+    request("OPTIONS", "/a", body=None),
+    request("DELETE", "/n", body=None),
+    request("PUT", "/l"),
+    frames.Read(None, "/a", 0, 1),
+    frames.Held(),
+)
+
+
+def try_idle(program: pathlib.Path):
+    """Serves a folder with and without batches that change nothing: its files have the same bytes at the end."""
+
+    def files_after(batches):
+        with tempfile.TemporaryDirectory() as folder:
+            sent = [Sent(number, 5, tuple(map(frames.encode_frame, it))).encode() for number, it in enumerate(batches, 1)]
+            davd.answers(davd.run(program, [folder], b"".join(sent)), len(batches))
+            return {file.name: file.read_bytes() for file in pathlib.Path(folder).iterdir()}
+
+    without, with_idle = files_after([CHANGING]), files_after([CHANGING, IDLE, IDLE])
+    other = sorted(it for it in without.keys() | with_idle.keys() if without.get(it) != with_idle.get(it))
+    if other:
+        raise Wrong(f"{', '.join(other)} differ, and must not")
+
+
 TRIED = {
     "which connections must be closed": try_closing,
     "the levels of a body": try_levels,
     "a deep tree": try_depth,
+    "what batches write that change nothing": try_idle,
 }
 
 

@@ -31,6 +31,3 @@ fn run(rt: &HostRuntime) -> u8 {
         Err(error) => report(&mut errors, PROGRAM, Stopped::from(error).into()),
     }
 }
-
-#[cfg(test)]
-mod tests;
