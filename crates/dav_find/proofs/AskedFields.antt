@@ -1,5 +1,5 @@
 -- The fields of a requested property, from what contracts see of it.
-use Rattle.std.proofs.Common.{◌≡◌, ◌∙◌, ap, sym, refl, Bool, true, false, Option, Some, None, if◌then◌else◌}
+use Rattle.std.proofs.Common.{◌≡◌, ◌∙◌, ap, sym, refl, Bool, true, false, Some, None, if◌then◌else◌}
 use Rattle.dav_resource.specs.Tree.{Tree}
 use Rattle.dav_resource.specs.declared.property.DavProp.{DavProp}
 use Rattle.dav_props.specs.Property.{prop_named}

@@ -21,4 +21,5 @@ pub mod AskedOnceLaws
 pub mod Ordered
 pub mod OrderedLaws
 pub mod NamedLaws
+pub mod Grouping
 pub mod SameNames

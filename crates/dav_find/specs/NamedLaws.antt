@@ -3,13 +3,15 @@ use Rattle.std.proofs.Common.{◌≡◌, ◌∙◌, ◌&&◌, ◌||◌, ◌==◌
 use Rattle.std.specs.Prelude.{codes, bytes_eq, unwrap_or}
 use Rattle.std.specs.FinMap.{get, empty, get-empty}
 use Rattle.std.specs.List.{after_first, flat_map}
-use Rattle.std.specs.Option.{option_map, ok_or, ForSome}
+use Rattle.std.specs.Option.{ok_or, ForSome}
 use Rattle.std.proofs.lemmas.List.{map-append}
 use Rattle.std.proofs.lemmas.Slice.Eq.{bytes_eq-Decides}
 use Rattle.dav_key.specs.Key.{Key, key_cmp}
 use Rattle.dav_resource.specs.PathText.{PathValue}
+use Rattle.dav_resource.specs.Profile.{repeats_request}
 use Rattle.dav_resource.specs.Tree.{Tree, prefixed_element}
 use Rattle.dav_resource.specs.declared.meta.Meta.{Meta}
+use Rattle.dav_resource.specs.declared.profile.Profile.{Profile}
 use Rattle.dav_resource.specs.declared.record.Outcome.{Outcome}
 use Rattle.dav_resource.specs.declared.record.Outcome.TheVariants.{Granted, Barred, Refused}
 use Rattle.dav_store.specs.Logged.{Logged}
@@ -22,7 +24,7 @@ use Rattle.dav_messages.specs.Dialogue.{Asks, Passed, LeadsTo}
 use Rattle.dav_messages.specs.Dialogues.{LeadsTo-last}
 use Rattle.dav_props.specs.Property.{bare}
 use Rattle.dav_props.specs.Propstat.{PropertyStatus}
-use Rattle.dav_live.specs.Live.{live_value, text_property}
+use Rattle.dav_live.specs.Live.{live_value, text_property, reported_in, resource_type, current_user_principal}
 use Rattle.dav_live.specs.Names.{live_property_of, named_in_dav, named_in_apache, named_in_microsoft, shown_name, is_quota}
 use Rattle.dav_live.specs.Rows.{live_text}
 use Rattle.dav_live.specs.Viewing.{Asker}
@@ -109,26 +111,33 @@ text_named name only (Some text) element e =
     let p : (if only then prefixed_element name else text_element name text) ≡ element = cc in
     either_named only (prefixed_element name) (text_element name text) element (name_of (prefixed_element name)) refl refl p
 
+some_is : {one other : Tree} → Some one ≡ Some other → one ≡ other
+some_is e = cc
+
+type_named : (shown element : Tree) (only dir : Bool) → resource_type shown only dir ≡ element → name_of element ≡ name_of shown
+type_named shown element only dir e =
+    either_named (dir && not only) (with_elements shown (prefixed_element (codes "D:collection") ∷ [])) shown element (name_of shown) refl refl e
+
+principal_named : (shown element : Tree) (only : Bool) (principal : Option (List ℕ)) → current_user_principal shown only principal ≡ Some element → name_of element ≡ name_of shown
+principal_named shown element only None e = absurd cc
+principal_named shown element only (Some text) e =
+    either_named only shown (with_elements shown (text_element (codes "D:href") text ∷ [])) element (name_of shown) refl refl (some_is e)
+
+-- the element in which a property is reported has the name of the property in each profile
+shown_named : (profile : Profile) (asked : Tree) (name : List ℕ) → name_of asked ≡ name_of (prefixed_element name) → name_of (reported_in profile asked name) ≡ name_of asked
+shown_named profile asked name is =
+    either_named (repeats_request profile) asked (prefixed_element name) (reported_in profile asked name) (name_of asked) refl (sym is) refl
+
 module _ (asked element : Tree) (only : Bool) (asker : Asker) (locks : Option (List DavLock)) (key : Key) (meta : Meta) where
   value_named : (p : LiveProperty) → name_of asked ≡ local_of p → live_value p asked only asker locks key meta ≡ Some element → name_of element ≡ name_of asked
   value_named ResourceType is e =
-      let q : (if meta.dir && not only then with_elements asked (prefixed_element (codes "D:collection") ∷ []) else asked) ≡ element = cc in
-      either_named (meta.dir && not only) (with_elements asked (prefixed_element (codes "D:collection") ∷ [])) asked element (name_of asked) refl refl q
-  value_named CurrentUserPrincipal is e = by_principal asker.principal e
-    where
-      by_principal : (principal : Option (List ℕ)) → option_map (λ text. if only then asked else with_elements asked (text_element (codes "D:href") text ∷ [])) principal ≡ Some element → name_of element ≡ name_of asked
-      by_principal None e = absurd cc
-      by_principal (Some text) e =
-          let q : (if only then asked else with_elements asked (text_element (codes "D:href") text ∷ [])) ≡ element = cc in
-          either_named only asked (with_elements asked (text_element (codes "D:href") text ∷ [])) element (name_of asked) refl refl q
+      type_named (reported_in asker.profile asked (shown_name ResourceType)) element only meta.dir (some_is e)
+      ∙ shown_named asker.profile asked (shown_name ResourceType) is
+  value_named CurrentUserPrincipal is e =
+      principal_named (reported_in asker.profile asked (shown_name CurrentUserPrincipal)) element only asker.principal e
+      ∙ shown_named asker.profile asked (shown_name CurrentUserPrincipal) is
   value_named LockDiscovery is e = either_named only _ _ element (name_of asked) (sym is) (sym is) (some_is e)
-    where
-      some_is : {one other : Tree} → Some one ≡ Some other → one ≡ other
-      some_is e = cc
   value_named SupportedLock is e = either_named only _ _ element (name_of asked) (sym is) (sym is) (some_is e)
-    where
-      some_is : {one other : Tree} → Some one ≡ Some other → one ≡ other
-      some_is e = cc
   value_named CreationDate is e = text_named (shown_name CreationDate) only (live_text CreationDate asker key meta) element e ∙ sym is
   value_named ContentLength is e = text_named (shown_name ContentLength) only (live_text ContentLength asker key meta) element e ∙ sym is
   value_named ContentType is e = text_named (shown_name ContentType) only (live_text ContentType asker key meta) element e ∙ sym is

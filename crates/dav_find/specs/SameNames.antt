@@ -10,13 +10,13 @@ use Rattle.dav_store.specs.Store.{Contents}
 use Rattle.dav_store.specs.declared.lock.DavLock.{DavLock}
 use Rattle.dav_messages.specs.Dialogue.{Dialogue, Passed, ◌>>=◌}
 use Rattle.dav_live.specs.Live.{live_value, reported_in, resource_type, current_user_principal}
-use Rattle.dav_live.specs.Names.{live_property_of, is_quota}
+use Rattle.dav_live.specs.Names.{live_property_of, is_quota, shown_name}
 use Rattle.dav_live.specs.Viewing.{Asker}
 use Rattle.dav_live.specs.declared.property.LiveProperty.{LiveProperty}
 use Rattle.dav_live.specs.declared.property.LiveProperty.TheVariants.{CreationDate, ContentLength, ContentType, ETag, LastModified, LockDiscovery, ResourceType, SupportedLock, CurrentUserPrincipal, QuotaAvailableBytes, QuotaUsedBytes, Executable, Win32CreationTime, Win32FileAttributes, Win32LastAccessTime, Win32LastModifiedTime}
 use Rattle.dav_walks.specs.declared.listing.Resource.{Resource}
-use Rattle.dav_find.proofs.Each.{bind_assoc, bind_same}
 use Rattle.dav_find.specs.Asked.{AskedProperty, names_only}
+use Rattle.dav_find.specs.Grouping.{bind_assoc, bind_same}
 use Rattle.dav_find.specs.Finding.{View, QuotaAnswer, Finding, ask_quota, asker_with, quota_status, live_result, find_live, find_kept, find_by, find_one, find_each}
 
 -- the namespace and the local name of the property that an element names
@@ -41,8 +41,8 @@ module _ (one other : Tree) (asker : Asker) (own : repeats_request asker.profile
 
   pub same_live : (property : LiveProperty) (only : Bool) (locks : Option (List DavLock)) (key : Key) (meta : Meta)
       → live_value property one only asker locks key meta ≡ live_value property other only asker locks key meta
-  same_live ResourceType only locks key meta = ap (λ e. Some (resource_type e only meta.dir)) (same_element _)
-  same_live CurrentUserPrincipal only locks key meta = ap (λ e. current_user_principal e only asker.principal) (same_element _)
+  same_live ResourceType only locks key meta = ap (λ e. Some (resource_type e only meta.dir)) (same_element (shown_name ResourceType))
+  same_live CurrentUserPrincipal only locks key meta = ap (λ e. current_user_principal e only asker.principal) (same_element (shown_name CurrentUserPrincipal))
   same_live CreationDate only locks key meta = refl
   same_live ContentLength only locks key meta = refl
   same_live ContentType only locks key meta = refl
@@ -86,27 +86,26 @@ module _ (view : View) (own : repeats_request view.profile ≡ false) (contents 
         ∙ ap (λ (n : Option (List ℕ) × List ℕ). find_by view contents here other (live_property_of n.0 n.1) quota) names
 
   -- the values of the other properties, behind a first one
-  values_after : List AskedProperty → Result Tree ℕ × Option QuotaAnswer → Dialogue (List (Result Tree ℕ) × Option QuotaAnswer)
+  abbrev values_after : List AskedProperty → Result Tree ℕ × Option QuotaAnswer → Dialogue (List (Result Tree ℕ) × Option QuotaAnswer)
   values_after more one = values_of view contents here more one.1 >>= λ values. Passed (one.0 ∷ values.0, values.1)
 
   values_cons : (asked : AskedProperty) (more : List AskedProperty) (quota : Option QuotaAnswer)
       → values_of view contents here (asked ∷ more) quota ≡ (find_one view contents here asked.element quota >>= values_after more)
-  unfolding ◌>>=◌
-  unfolding find_each
+  unfolding find_each ◌>>=◌
   values_cons asked more quota =
       bind_assoc (find_one view contents here asked.element quota) _ _
       ∙ bind_same (find_one view contents here asked.element quota) _ _
-        (λ one. bind_assoc (find_each view contents here more one.1) _ _ ∙ sym (bind_assoc (find_each view contents here more one.1) _ _))
+      (λ one. bind_assoc (find_each view contents here more one.1) _ _ ∙ sym (bind_assoc (find_each view contents here more one.1) _ _))
 
   -- requests that name the same properties find the same values
   pub same_values : (one other : List AskedProperty) (quota : Option QuotaAnswer) → names_of one ≡ names_of other
       → values_of view contents here one quota ≡ values_of view contents here other quota
   same_values [] [] quota names = refl
-  same_values [] (b ∷ bs) quota names = absurd cc
-  same_values (a ∷ as) [] quota names = absurd cc
-  same_values (a ∷ as) (b ∷ bs) quota names =
-      values_cons a as quota
-      ∙ ap (λ first. first >>= values_after as) (same_one a.element b.element cc quota)
+  same_values [] (b ∷ others) quota names = absurd cc
+  same_values (a ∷ rest) [] quota names = absurd cc
+  same_values (a ∷ rest) (b ∷ others) quota names =
+      values_cons a rest quota
+      ∙ ap (λ first. first >>= values_after rest) (same_one a.element b.element (cc) quota)
       ∙ bind_same (find_one view contents here b.element quota) _ _
-        (λ first. ap (λ values. values >>= λ found. Passed (first.0 ∷ found.0, found.1)) (same_values as bs first.1 cc))
-      ∙ sym (values_cons b bs quota)
+      (λ first. ap (λ values. values >>= λ found. Passed (first.0 ∷ found.0, found.1)) (same_values rest others first.1 cc))
+      ∙ sym (values_cons b others quota)
