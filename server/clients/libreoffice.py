@@ -238,13 +238,13 @@ def move(server: Server):
 
 
 def remove(server: Server):
+    office(server).call("copy", url(server, NAME), url(server, "papers/d.odt"))
     office(server).call("remove", url(server, "papers/c.odt"))
-    expect("the members", members(server, "papers"), {})
+    expect("the members", members(server, "papers"), {"d.odt": size(server, NAME)})
     expect("whether the file is there", office(server).call("exists", url(server, "papers/c.odt")), False)
 
 
 def remove_folder(server: Server):
-    office(server).call("copy", url(server, NAME), url(server, "papers/d.odt"))
     office(server).call("remove", url(server, "papers"))
     expect("the members", members(server), {NAME: size(server, NAME)})
 
