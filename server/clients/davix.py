@@ -13,7 +13,8 @@ CONTENT = b"what davix sends\n" * 1000
 LINE = re.compile(r"([-d])\S* +\d+ +(\d+) +\S+ \S+ (.*)")
 
 PLAIN = Group("davix", needs="davix-ls")
-WITH_USER = Group("davix with a user and a prefix", "-prefix", "/dav", *accounts.FLAGS, files=accounts.FILES, needs="davix-ls")
+WITH_USER = Group("davix with a user and a prefix", "-prefix", "/dav", *accounts.FLAGS, files=accounts.FILES,
+                  needs="davix-ls")
 GROUPS = [PLAIN, WITH_USER]
 
 
@@ -22,7 +23,7 @@ def url(server, name: str = "") -> str:
 
 
 def davix(server, command: str, *words: str, status: int = 0) -> str:
-    """Runs a command of davix, and returns what it printed. 0.8.4 does not use its own option for a user, with no server."""
+    """Runs a command of davix, and returns what it printed. 0.8.4 does not use its `--userlogin`, whatever the server is."""
     fields = [it for pair in accounts.AS_ANNA.items() for it in ("-H", ": ".join(pair))] if "-users" in server.flags else []
     ran = PROCESSES.run([f"davix-{command}", "--retry", "0", *fields, *words], SECONDS)
     if ran.returncode != status:

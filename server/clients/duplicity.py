@@ -23,7 +23,8 @@ def duplicity(server, *words) -> str:
     home.mkdir()
     environment = {**os.environ, "HOME": str(home), "FTP_PASSWORD": accounts.ANNA[1], "LC_ALL": "C.UTF-8"}
     command, *paths = words
-    ran = PROCESSES.run(["duplicity", command, *OPTIONS, "--archive-dir", home / "archive", *paths], SECONDS, env=environment)
+    options = [*OPTIONS, "--archive-dir", home / "archive"]
+    ran = PROCESSES.run(["duplicity", command, *options, *paths], SECONDS, env=environment)
     if ran.returncode != 0:
         raise Wrong(f"duplicity {command}\n  expected status 0, got {ran.returncode}:\n{ran.stdout}")
     return ran.stdout

@@ -10,7 +10,8 @@ from server import PROCESSES
 SECONDS = 40
 CONTENT = "what HTTP::DAV sends\n" * 100
 PLAIN = Group("HTTP::DAV", needs="dave")
-WITH_USER = Group("HTTP::DAV with a user and a prefix", "-prefix", "/dav", *accounts.FLAGS, files=accounts.FILES, needs="dave")
+WITH_USER = Group("HTTP::DAV with a user and a prefix", "-prefix", "/dav", *accounts.FLAGS, files=accounts.FILES,
+                  needs="dave")
 GROUPS = [PLAIN, WITH_USER]
 
 
@@ -28,12 +29,13 @@ use HTTP::DAV;
 my ($url, $here, $user, $password) = @ARGV;
 my $dav = HTTP::DAV->new;
 $dav->credentials(-user => $user, -pass => $password, -url => $url);
-sub members { map { [$_->get_property("rel_uri"), $_] } shift->get_resourcelist->get_resources }
+sub kind { my $it = shift; $it->is_collection ? "folder" : $it->get_property("getcontentlength") }
 sub kinds {
     my $all = $dav->propfind(-url => shift, -depth => 1) or return "none";
-    my @found = sort map { "$$_[0]:" . ($$_[1]->is_collection ? "folder" : $$_[1]->get_property("getcontentlength")) } members($all);
-    return join " ", $all->is_collection ? "folder" : "file", @found;
+    my @found = map { $_->get_property("rel_uri") . ":" . kind($_) } $all->get_resourcelist->get_resources;
+    return join " ", kind($all), sort @found;
 }
+sub files { join " ", map { s{.*/}{}r } sort glob(quotemeta(shift) . "/*") }
 sub content { open my $file, "<", shift or return "none"; local $/; <$file> }
 """
 LENGTH = len(CONTENT)
@@ -43,17 +45,17 @@ CALLS = [
     Call("put", '$dav->put(-local => "$here/sent.txt", -url => "a.txt")'),
     Call("put of a name with spaces", '$dav->put(-local => "$here/sent.txt", -url => "two words (1).txt")'),
     Call("propfind says what is a folder", 'kinds("")', f"folder a.txt:{LENGTH} folder/:folder two words (1).txt:{LENGTH}"),
-    Call("propfind of a file", '$dav->propfind(-url => "a.txt", -depth => 0)->is_collection ? "folder" : "file"', "file"),
+    Call("propfind of a file", 'kind($dav->propfind(-url => "a.txt", -depth => 0))', f"{LENGTH}"),
     Call("lock", '$dav->lock(-url => "a.txt", -timeout => "5m", -owner => "perl")'),
     Call("put under the lock", '$dav->put(-local => "$here/sent.txt", -url => "a.txt")'),
     Call("unlock", '$dav->unlock(-url => "a.txt")'),
-    Call("proppatch", '$dav->proppatch(-url => "a.txt", -namespace => "urn:x", -propname => "colour", -propvalue => "blue")->is_collection ? "folder" : "file"', "file"),
+    Call("proppatch", '$dav->proppatch(-url => "a.txt", -namespace => "urn:x", -propname => "colour", -propvalue => "blue") && 1'),
     Call("the property is found", '$dav->propfind(-url => "a.txt", -depth => 0)->get_property("colour")', "blue"),
     Call("copy", '$dav->copy(-url => "a.txt", -dest => "$url/perl/b.txt")'),
     Call("move", '$dav->move(-url => "b.txt", -dest => "$url/perl/folder/c.txt")'),
     Call("the moved file is listed", 'kinds("folder")', f"folder c.txt:{LENGTH}"),
     Call("get", '$dav->get(-url => "folder/c.txt", -to => "$here/got") && content("$here/got") eq content("$here/sent.txt")'),
-    Call("get of all files of a folder", '$dav->get(-url => "*.txt", -to => "$here/all") && join " ", map { s{.*/}{}r } sort glob(quotemeta($here) . "/all/*")',
+    Call("get of all files of a folder", '$dav->get(-url => "*.txt", -to => "$here/all") && files("$here/all")',
          "a.txt two words (1).txt"),
     Call("delete of a file", '$dav->delete(-url => "a.txt")'),
     Call("delete of a folder", '$dav->delete(-url => "folder")'),
@@ -66,7 +68,8 @@ def script(server):
     folder: pathlib.Path = server.files / "perl"
     (folder / "all").mkdir(parents=True)
     (folder / "sent.txt").write_text(CONTENT)
-    lines = [f'print "{number}: ", eval {{ {it.text} }} // "failed, $@" . $dav->message, "\\n";' for number, it in enumerate(CALLS)]
+    line = 'print "%d: ", eval { %s } // "failed, $@" . $dav->message, "\\n";'
+    lines = [line % (number, it.text) for number, it in enumerate(CALLS)]
     (folder / "script").write_text("\n".join([BEGIN, *lines, ""]))
     words = ["perl", folder / "script", server.url(server.prefix), folder, *accounts.ANNA]
     ran = PROCESSES.run(words, SECONDS)
