@@ -8,7 +8,15 @@ from server import PROCESSES, Programs
 
 SERVER = pathlib.Path(__file__).resolve().parent.parent
 TOP = SERVER.parent
-CRYPTO = pathlib.Path("/usr/share/gocode/src/golang.org/x/crypto/bcrypt")
+# What shows that a package is installed: a program, or a file. Without an entry it is a program of the package's name.
+SHOWN_BY = {
+    "golang-go": "go",
+    "golang-golang-x-crypto-dev": pathlib.Path("/usr/share/gocode/src/golang.org/x/crypto/bcrypt"),
+    "libreoffice-writer-nogui": pathlib.Path("/usr/lib/libreoffice/program/libswlo.so"),
+    "python3-uno": pathlib.Path("/usr/lib/python3/dist-packages/uno.py"),
+    "davix": "davix-ls",
+    "libhttp-dav-perl": "dave",
+}
 APT_SECONDS = 240
 BUILD_SECONDS = 240
 
@@ -22,14 +30,16 @@ class NotBuilt(Exception):
 
 
 def is_there(package: str) -> bool:
-    """Whether a Debian package is installed, by the program or the sources that it has."""
-    if package == "golang-golang-x-crypto-dev":
-        return CRYPTO.is_dir()
-    return shutil.which({"golang-go": "go"}.get(package, package)) is not None
+    """Whether a Debian package is installed."""
+    shown_by = SHOWN_BY.get(package, package)
+    return shown_by.exists() if isinstance(shown_by, pathlib.Path) else shutil.which(shown_by) is not None
 
 
 NEEDED = ("golang-go", "gcc", "golang-golang-x-crypto-dev", "litmus")
-WANTED = ("cadaver", "rclone", "lftp", "git", "ffmpeg", "curl", "make")
+WANTED = (
+    "cadaver", "rclone", "lftp", "git", "ffmpeg", "curl", "make", "libreoffice-writer-nogui", "python3-uno", "davix",
+    "libhttp-dav-perl", "duplicity", "sitecopy",
+)
 
 
 def install(counts: Run):
