@@ -1,6 +1,6 @@
 -- PROPFIND: its work, by what a finder has written.
 use Rattle.std.proofs.Common.{◌≡◌, ◌∙◌, List, [], ◌++◌, Option, Some, None, Result, Ok, Err, inl, inr, refl, sym, ap, append-nil}
-use Rattle.std.specs.Option.{option_map, option_copied}
+use Rattle.std.specs.Option.{option_map}
 use Rattle.std.specs.Result.{IsErrAnd}
 use Rattle.std.proofs.lemmas.Result.{err_from_is_err_and}
 use Rattle.http.specs.declared.response.Response.{Response}
@@ -10,7 +10,6 @@ use Rattle.dav_resource.specs.declared.error.DavError.TheVariants.{Memory}
 use Rattle.dav_resource.specs.declared.meta.Meta.{Meta}
 use Rattle.dav_resource.specs.declared.request.Body.{Body}
 use Rattle.dav_resource.specs.declared.request.DavRequest.{DavRequest}
-use Rattle.dav_headers.specs.Client.{user_agent_of}
 use Rattle.dav_store.specs.Locks.{Locks}
 use Rattle.dav_store.specs.Store.{Store}
 use Rattle.dav_messages.specs.Conditions.{locks_in}
@@ -19,14 +18,12 @@ use Rattle.dav_props.specs.Propstat.{property_multistatus}
 use Rattle.dav_props.specs.declared.writer.PropWriter.{PropWriter}
 use Rattle.dav_find.specs.Asked.{Asking}
 use Rattle.dav_find.specs.Declaring.{with_prefixes}
-use Rattle.dav_find.specs.Finder.{view_of}
 use Rattle.dav_find.specs.Visiting.{Visit}
 use Rattle.dav_find.specs.Writing.{WritesFrom, Writes}
-use Rattle.dav_find.specs.declared.finding.Finder.{Finder}
 use Rattle.dav_engine.specs.Location.{location_fields}
 use Rattle.dav_engine.specs.Propfind.{view_in, target_at, depth_or_default, propfind_fields, Searches, PropfindWork, PropfindCut}
 use Rattle.dav_engine.specs.Settings.{Settings}
-use Rattle.dav_engine.specs.State.{State, state_of}
+use Rattle.dav_engine.specs.State.{state_of}
 use Rattle.dav_engine.specs.Work.{Performs}
 use Rattle.dav_engine.proofs.Serving.{over, same_facts, same_state}
 
@@ -37,13 +34,6 @@ failed e = Err e
 pub locks_are : {L : Type 0} (seen : L → Locks) (ls : Option L) → locks_in seen ls ≡ option_map (λ (l : Locks). l.list) (option_map seen ls)
 locks_are seen None = refl
 locks_are seen (Some l) = refl
-
--- a finder seeks as the request says
-pub view_is : {C L : Type 0} (seen : L → Locks) (finder : Finder C L) (settings : Settings) (request : DavRequest) (state : State)
-    → locks_in seen (option_copied finder.ls) ≡ state.locks → option_copied finder.principal ≡ request.principal → option_copied finder.user_agent ≡ user_agent_of request.headers
-    → view_of seen finder settings.facts ≡ view_in settings request state finder.search.now.kind
-view_is seen finder settings request state locks principal agent =
-    λ i. record { kind = finder.search.now.kind; keeps = settings.facts.keeps_properties; shows = settings.facts.shows; locks = locks i; principal = principal i; user_agent = agent i }
 
 module _ (settings : Settings) (request : DavRequest) (meta : Meta) (asking : Asking) (locks : Option Locks) where
   -- memory ran out before anything was asked

@@ -11,9 +11,9 @@ returns-in_err-lock-clause-work g c =
 pub returns-in-Ok-clause-work : goal.returns-in-Ok-clause-work
 returns-in-Ok-clause-work g c =
     locks_told c.args.self.now.profile c.args.request.now c.args.found c.args.info.now c.requires.info _ _ _ c.in_ok-lock.ensures.granted (ap (option_map g.L.DavLockSystem.seen) c.in-Ok.ensures.same_locks) _
-    (rw c.in_ok-lock.ensures.lock at c.in-Ok.ensures.work)
+    (rw (ap (λ f. f.1.3) c.in_ok-lock.ensures.same_engine, c.in_ok-lock.ensures.lock) at c.in-Ok.ensures.work)
 
 pub returns-clause-work : goal.returns-clause-work
 returns-clause-work g c =
     locks_removed c.args.self.now.profile c.args.request.now c.args.found c.args.info.now c.requires.info _ _ _ c.in_ok-lock.ensures.granted (ap (option_map g.L.DavLockSystem.seen) c.in-Err.ensures.same_locks) c.in-Err.error _ c.remove_lock.result
-    (rw c.in_ok-lock.ensures.lock at c.in-Err.ensures.work) (rw (c.as_str.ensures, c.in_ok-lock.ensures.lock) at c.remove_lock.ensures.removed) (rw (c.as_str.ensures, c.in_ok-lock.ensures.lock) at c.remove_lock.ensures.kept)
+    (rw (ap (λ f. f.1.3) c.in_ok-lock.ensures.same_engine, c.in_ok-lock.ensures.lock) at c.in-Err.ensures.work) (rw (c.as_str.ensures, c.in_ok-lock.ensures.lock) at c.remove_lock.ensures.removed) (rw (c.as_str.ensures, c.in_ok-lock.ensures.lock) at c.remove_lock.ensures.kept)
