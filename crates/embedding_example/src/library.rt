@@ -12,10 +12,12 @@ use std::alloc::Global;
 
 /// Executes the requests of this file, and prints what the engine returns.
 pub fn run(rt: &HostRuntime) -> Result<()> {
-    let alloc = rt.alloc();
-    serve(rt, &mut MemFs::new(alloc)?, &mut MemLs::new(alloc))?;
+    let mut store = MemFs::new(rt.alloc())?;
+    let mut locks = MemLs::new(rt.alloc());
+    serve(rt, &mut store, &mut locks)?;
     println!(rt; "")?;
-    serve_without_locks(rt, &mut MemFs::new(alloc)?)
+    let mut store = MemFs::new(rt.alloc())?;
+    serve_without_locks(rt, &mut store)
 }
 
 /// Executes the requests. The engine borrows the store and the lock system for one lifetime.
