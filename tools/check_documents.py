@@ -1,8 +1,8 @@
 """Checks that what the documents show, link to and cite exists. tools/cases runs it.
 
 - Links: each relative link names a file that exists and, after a #, a heading of it.
-- Blocks: a ```rust block is a part of the source of an example crate, in one piece. A ```text block is the whole of its
-  stdout, or a whole file of examples/. An indented block that begins with a request line is the whole of some
+- Blocks: a ```rust block is a part of a source of the example crate (EXAMPLE), in one piece. A ```text block is the whole
+  of its stdout, or a whole file of examples/. An indented block that begins with a request line is the whole of some
   examples/*.dav, one that begins with `> ` the whole of some examples/*.out. Blocks of other kinds are not compared.
 - Citations of docs/GUARANTEES.md: of [`handle_delete` (`emptied`)](../crates/dav_engine/src/delete.rt) the file must
   have the function and its contract the clause. The file of a link to an .antt file must define each name. In the other
@@ -21,7 +21,7 @@ from tool import TOP, shown, text_of
 
 GUARANTEES = TOP / "docs/GUARANTEES.md"
 ENGINE = TOP / "crates/dav_engine"
-EXAMPLES = [TOP / "crates/library_example", TOP / "crates/embedding_example"]
+EXAMPLE = TOP / "crates/embedding_example"
 ALLOWED = TOP / "tools/words-allowed"
 WORDS = [
     "told", "tells", "tell", "telling", "handed in", "hand in", "hands in", "is let", "are let", "lent", "lends",
@@ -67,16 +67,14 @@ def is_whole(text, files):
 
 def check_blocks(document, blocks):
     outputs, scripts = (sorted((TOP / "examples").glob(f"*.{it}")) for it in ("out", "dav"))
-    printed = [it / "stdout" for it in EXAMPLES]
     for block in blocks:
         where = f"{shown(document)}:{block.line}"
         if block.kind == "rust":
-            sources = [file for crate in EXAMPLES for file in crate.glob("src/*.rt")]
-            is_shown = any(is_part(block.text, it) for it in sources)
-            yield where, None if is_shown else "no part of a source of " + " or ".join(map(shown, EXAMPLES))
+            is_shown = any(is_part(block.text, it) for it in EXAMPLE.glob("src/*.rt"))
+            yield where, None if is_shown else f"no part of a source of {shown(EXAMPLE)}"
         elif block.kind == "text":
-            is_shown = is_whole(block.text, [*printed, *outputs, *scripts])
-            yield where, None if is_shown else "not the stdout of an example crate, and no file of examples/"
+            is_shown = is_whole(block.text, [EXAMPLE / "stdout", *outputs, *scripts])
+            yield where, None if is_shown else f"not the stdout of {shown(EXAMPLE)}, and no file of examples/"
         elif block.kind == "indented" and block.text.startswith("> "):
             yield where, None if is_whole(block.text, outputs) else "not the whole of any examples/*.out"
         elif block.kind == "indented" and re.match(r"[A-Z]+ /", block.text):

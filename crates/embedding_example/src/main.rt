@@ -1,7 +1,8 @@
-//! A program that serves HTTP/1.1 requests with the engine: bytes to requests, responses to bytes, locks that expire.
-//! docs/EMBEDDING.md explains it part by part.
+//! A program that calls the engine directly (`library`), and then serves HTTP/1.1 requests with it: bytes to requests,
+//! responses to bytes, locks that expire. docs/EMBEDDING.md explains it part by part.
 #![tactic(auto)]
 
+mod library;
 mod message;
 mod server;
 mod tree_builder;
@@ -24,6 +25,8 @@ const LOCK: &[u8] = b"LOCK /a HTTP/1.1\r\nHost: h\r\nTimeout: Second-60\r\n\r\n"
 const DELETE: &[u8] = b"DELETE /a HTTP/1.1\r\nHost: h\r\n\r\n";
 
 fn main(rt: HostRuntime) -> Result<()> {
+    library::run(&rt)?;
+    println!(rt; "")?;
     let alloc = rt.alloc();
     let mut server = Server::new(alloc)?;
     let hi = Items::from_vec(b"hi".to_vec(alloc)?);

@@ -1,21 +1,23 @@
 //! Executes four WebDAV requests against a store and a lock system in memory, and prints the responses and
-//! what is left.
-#![tactic(auto)]
-
+//! what is left. Then executes four without a lock system.
+use crate::dav;
+use crate::xml::document;
 use anyhow::{Context, Result};
-use dav_engine::{
-    Body, DavInner, DavPath, DavRequest, Element, Items, LockToken, ReqBody, XMLNode,
-};
+use dav_engine::{Body, DavInner, DavPath, DavRequest, Element, Items, LockToken, ReqBody};
 use dav_memls::MemLs;
 use dav_tree::MemFs;
 use http::{Method, Response};
 use http_header::{HeaderMap, HeaderName, HeaderValue};
 use std::alloc::Global;
 
-fn main(rt: HostRuntime) -> Result<()> {
+/// Executes the requests of this file, and prints what the engine returns.
+pub fn run(rt: &HostRuntime) -> Result<()> {
     let mut store = MemFs::new(rt.alloc())?;
     let mut locks = MemLs::new(rt.alloc());
-    serve(&rt, &mut store, &mut locks)
+    serve(rt, &mut store, &mut locks)?;
+    println!(rt; "")?;
+    let mut store = MemFs::new(rt.alloc())?;
+    serve_without_locks(rt, &mut store)
 }
 
 /// Executes the requests. The engine borrows the store and the lock system for one lifetime.
@@ -44,6 +46,26 @@ fn serve<'a>(rt: &HostRuntime, store: &'a mut MemFs, locks: &'a mut MemLs) -> Re
     Ok(())
 }
 
+/// Executes four requests without a lock system. Only the LOCK fails, with 405.
+fn serve_without_locks<'a>(rt: &HostRuntime, store: &'a mut MemFs) -> Result<()> {
+    let alloc = rt.alloc();
+    let hi = b"hi".to_vec(alloc)?;
+    let requests = [
+        request(alloc, "PUT", "/a", ReqBody::Bytes(Items::from_vec(hi)))?,
+        request(alloc, "LOCK", "/a", ReqBody::Tree(lock_info(alloc)?))?,
+        propfind(alloc, "/")?,
+        request(alloc, "DELETE", "/a", ReqBody::None)?,
+    ];
+    let mut engine = DavInner::new(store, None::<&'a mut MemLs>, String::new(alloc), None, ());
+    for reply in &engine.run(&requests)? {
+        match reply {
+            Ok(reply) => print_reply(rt, reply)?,
+            Err(error) => println!(rt; "{}", error.statuscode())?,
+        }
+    }
+    Ok(())
+}
+
 fn request(alloc: Global, method: &str, path: &str, body: ReqBody) -> Result<DavRequest> {
     // The token of the lock that this request creates. A server makes a new one for each request.
     let token = String::from_str(alloc, "urn:lock:1")?;
@@ -60,10 +82,10 @@ fn request(alloc: Global, method: &str, path: &str, body: ReqBody) -> Result<Dav
 
 /// Builds the body of a LOCK that asks for an exclusive write lock. A server reads it from XML.
 fn lock_info(alloc: Global) -> Result<Element> {
-    let mut info = Element::new(alloc, "lockinfo")?;
+    let mut info = dav(alloc, "lockinfo")?;
     for (name, choice) in [("lockscope", "exclusive"), ("locktype", "write")] {
-        let mut part = Element::new(alloc, name)?;
-        part.push_element(Element::new(alloc, choice)?)?;
+        let mut part = dav(alloc, name)?;
+        part.push_element(dav(alloc, choice)?)?;
         info.push_element(part)?;
     }
     Ok(info)
@@ -80,17 +102,13 @@ fn propfind(alloc: Global, path: &str) -> Result<DavRequest> {
 }
 
 fn asked(alloc: Global) -> Result<Element> {
-    let mut names = dav_element(alloc, "prop")?;
+    let mut names = dav(alloc, "prop")?;
     for name in ["getcontentlength", "getetag"] {
-        names.push_element(dav_element(alloc, name)?)?;
+        names.push_element(dav(alloc, name)?)?;
     }
-    let mut asked = dav_element(alloc, "propfind")?;
+    let mut asked = dav(alloc, "propfind")?;
     asked.push_element(names)?;
     Ok(asked)
-}
-
-fn dav_element(alloc: Global, name: &str) -> Result<Element> {
-    Ok(Element::new(alloc, name)?.with_namespace("DAV:")?)
 }
 
 fn print_reply(rt: &HostRuntime, reply: &Response<Body>) -> Result<()> {
@@ -99,57 +117,7 @@ fn print_reply(rt: &HostRuntime, reply: &Response<Body>) -> Result<()> {
         println!(rt; "lock-token: {}", token.to_str()?)?;
     }
     if let Body::Tree(tree) = reply.body() {
-        let mut document = String::new(rt.alloc());
-        push_xml(&mut document, tree)?;
-        println!(rt; "{document}")?;
-    }
-    Ok(())
-}
-
-/// Appends an element as XML. The engine declares the namespace of its own elements as an attribute. For dead
-/// properties, whose namespaces are the clients', see `embedding_example`.
-fn push_xml(text: &mut String, element: &Element) -> Result<()> {
-    let tag = element.start_tag()?;
-    let name = match &tag.prefix {
-        Some(prefix) => format!(in *text.allocator(); "{}:{}", prefix.as_str(), tag.name.as_str())?,
-        None => String::from_str(*text.allocator(), tag.name.as_str())?,
-    };
-    text.push('<')?;
-    text.push_str(&name)?;
-    for (attribute, value) in tag.attributes.iter() {
-        text.push(' ')?;
-        text.push_str(attribute)?;
-        text.push_str("=\"")?;
-        push_escaped(text, value)?;
-        text.push('"')?;
-    }
-    text.push('>')?;
-    for child in &element.children {
-        match child {
-            XMLNode::Element(child) => push_xml(text, child)?,
-            XMLNode::Text(part) => push_escaped(text, part.as_str())?,
-        }
-    }
-    text.push_str("</")?;
-    text.push_str(&name)?;
-    text.push('>')?;
-    Ok(())
-}
-
-/// The characters that XML cannot have as they are, and the entity of each.
-const ESCAPED: [(char, &str); 4] = [
-    ('&', "&amp;"),
-    ('<', "&lt;"),
-    ('>', "&gt;"),
-    ('"', "&quot;"),
-];
-
-fn push_escaped(text: &mut String, characters: &str) -> Result<()> {
-    for character in characters.chars() {
-        match ESCAPED.iter().find(|it| it.0 == character) {
-            Some(escaped) => text.push_str(escaped.1)?,
-            None => text.push(character)?,
-        }
+        print!(rt; "{}", document(rt.alloc(), tree)?)?;
     }
     Ok(())
 }
