@@ -2,7 +2,6 @@
 package caller
 
 import (
-	"context"
 	"net"
 	"net/http"
 	"net/netip"
@@ -81,17 +80,4 @@ func UserKey(name string) share.Key {
 // Peer returns the address at the other end of a connection.
 func Peer(c net.Conn) netip.Addr {
 	return Parse(c.RemoteAddr().String())
-}
-
-type key struct{}
-
-// With returns a context whose client has this key.
-func With(ctx context.Context, k share.Key) context.Context {
-	return context.WithValue(ctx, key{}, k)
-}
-
-// From returns the key of the client in a context, or "" if there is none.
-func From(ctx context.Context) share.Key {
-	k, _ := ctx.Value(key{}).(share.Key)
-	return k
 }
