@@ -102,11 +102,11 @@ for name, method, fields, start in BODIES:
 
 @GROUP.check("a body that arrives slowly, but arrives, is stored")
 def slow_body(server):
-    body = b"0123456789" * 4
+    body = b"0123456789" * 40
     with server.connect() as connection:
         connection.send(head("PUT", "/slow", server.port, None, {"Content-Length": str(len(body))}))
-        for byte in range(0, len(body), 4):
-            connection.send(body[byte : byte + 4])
+        for byte in range(0, len(body), 40):
+            connection.send(body[byte : byte + 40])
             time.sleep(0.3)
         expected(connection.answer("PUT"), 201, "PUT /slow")
     expect("the file", server.ask("GET", "/slow").body, body)
