@@ -155,8 +155,10 @@ def windows(server):
         it.send(b"".join(headers(stream, "GET", "/large") for stream in it.streams(100)))
     time.sleep(0.3)
     asked(server, MODEST, path="/large", status=200)
-    for it in connections:
-        expect("the end of the connection", it.ends_within(STALL + 3), True)
+    is_ended = connections[0].ends_within(STALL + 3)
+    if not is_ended and not connections[1].ends_within(1):  # One of the two may have nothing but refused requests.
+        raise Wrong("expected the end of a connection whose responses are not received")
+    asked(server, GREEDY, path="/large", status=200)
     close(connections)
 
 

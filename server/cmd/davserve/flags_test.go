@@ -119,8 +119,8 @@ func TestTheDocumentsHaveEachOption(t *testing.T) {
 	(&config{}).flags(io.Discard).VisitAll(func(f *flag.Flag) { want = append(want, f.Name) })
 	sort.Strings(want)
 	tests := []struct{ document, line, option string }{
-		{"../../install/davserve.1", `(?m)^\.It Fl .*`, `Fl ([a-z-]+)`},
-		{"../../../docs/SERVER.md", "(?m)^\\| `-[^|]*", "`-([a-z-]+)"},
+		{"../../install/davserve.1", `(?m)^\.It Fl .*`, `Fl ([a-z0-9-]*[a-z0-9])`},
+		{"../../../docs/SERVER.md", "(?m)^\\| `-[^|]*", "`-([a-z0-9-]*[a-z0-9])"},
 	}
 	for _, test := range tests {
 		got := optionsIn(t, test.document, regexp.MustCompile(test.line), regexp.MustCompile(test.option))

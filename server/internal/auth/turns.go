@@ -21,7 +21,7 @@ const (
 //
 // It is the one whose wide network and whose name together have had the fewest checks lately, and of these the newest. So
 // whoever comes once is served before all who try many passwords, from one network or of one user, also when these wait
-// already. Whether there is a user of the name makes no difference: else the time would tell. Checks of addresses that have
+// already. Whether there is a user of the name makes no difference: else the time would show it. Checks of addresses that have
 // failed lately come after all others, and leave one processor to these, if there are two or more.
 type turns struct {
 	now func() time.Time

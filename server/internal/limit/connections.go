@@ -33,7 +33,7 @@ const (
 // of the client of which the most wait.
 //
 // The connections of proxies are those of many clients: they are never closed for another client, and others are closed
-// for them. Handler tells which connections serve a request, and needs ConnContext.
+// for them. Handler knows which connections serve a request, and needs ConnContext.
 type Connections struct {
 	listener net.Listener
 	most     int
