@@ -35,6 +35,7 @@ func limitMemory() {
 // limits are what all clients share.
 type limits struct {
 	proxies  caller.Proxies
+	field    string // in which a proxy passes the user; empty: none
 	client   func(*http.Request) share.Key
 	inside   *share.Pool // requests in the server
 	requests *share.Pool // requests that are served
@@ -45,6 +46,7 @@ func (c *config) newLimits() *limits {
 	inside := insideOfRequests * c.maxRequests
 	return &limits{
 		proxies:  caller.Proxies(c.trustedProxies),
+		field:    c.userHeader,
 		client:   c.client,
 		inside:   share.NewPool(int64(inside), c.options.ClientShare, 1),
 		requests: share.NewPool(int64(c.maxRequests), c.options.ClientShare, inside),
@@ -61,8 +63,13 @@ func (l *limits) connection(c net.Conn) (key share.Key, isProxy bool) {
 	return caller.Key(address), false
 }
 
-// address returns the key of the address from which a request comes.
+// address returns the key of the address from which a request comes or, if a proxy names it, that of its user.
 func (l *limits) address(r *http.Request) share.Key {
+	if l.field != "" && l.proxies.Has(caller.Parse(r.RemoteAddr)) {
+		if name := r.Header.Get(l.field); name != "" {
+			return caller.UserKey(name)
+		}
+	}
 	return caller.Key(l.proxies.Address(r))
 }
 
