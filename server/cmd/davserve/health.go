@@ -6,8 +6,6 @@ import (
 	"net/http"
 	"sync"
 	"time"
-
-	"davserve/internal/limit"
 )
 
 // healthPath is the path at which the server says whether it works. A resource of this path cannot be reached.
@@ -33,7 +31,7 @@ type checkup struct {
 
 // handler answers at healthPath, within a limit of its own.
 func (h *health) handler(l *limits) http.Handler {
-	return limit.Requests(l.health, 0, l.address, http.HandlerFunc(h.serve))
+	return l.checkup(http.HandlerFunc(h.serve))
 }
 
 func (h *health) serve(w http.ResponseWriter, r *http.Request) {

@@ -72,7 +72,12 @@ func (h hosts) handler(next http.Handler) http.Handler {
 			next.ServeHTTP(w, r)
 			return
 		}
-		text := fmt.Sprintf("421 Misdirected Request: the host %q is not served here (davserve -host NAME adds a name)", r.Host)
+		if r.ProtoMajor == 2 { // as limit.Busy: no body that could wait for its client
+			w.Header().Set("Content-Length", "0")
+			w.WriteHeader(http.StatusMisdirectedRequest)
+			return
+		}
+		text := fmt.Sprintf("421 Misdirected Request: the host %q is not served (davserve -host NAME adds one)", r.Host)
 		http.Error(w, text, http.StatusMisdirectedRequest)
 	})
 }

@@ -37,6 +37,7 @@ type limits struct {
 	proxies  caller.Proxies
 	field    string // in which a proxy passes the user; empty: none
 	client   func(*http.Request) share.Key
+	pace     limit.Pace
 	inside   *share.Pool // requests in the server
 	requests *share.Pool // requests that are served
 	health   *share.Pool // requests for the health
@@ -48,6 +49,7 @@ func (c *config) newLimits() *limits {
 		proxies:  caller.Proxies(c.trustedProxies),
 		field:    c.userHeader,
 		client:   c.client,
+		pace:     limit.Pace{Stall: c.options.StallTimeout, Least: c.options.LeastRate},
 		inside:   share.NewPool(int64(inside), c.options.ClientShare, 1),
 		requests: share.NewPool(int64(c.maxRequests), c.options.ClientShare, inside),
 		health:   share.NewPool(healthRequests, c.options.ClientShare, 1),
@@ -81,9 +83,14 @@ func (c *config) client(r *http.Request) share.Key {
 	return caller.Key(caller.Proxies(c.trustedProxies).Address(r))
 }
 
-// enter passes requests to next, as many as may be in the server.
+// enter passes requests to next, as many as may be in the server. They are there until their responses are received.
 func (l *limits) enter(next http.Handler) http.Handler {
-	return limit.Requests(l.inside, 0, l.address, next)
+	return limit.Requests(l.inside, 0, l.address, limit.Responses(l.pace, next))
+}
+
+// checkup passes requests for the health to next, as many as may be under way.
+func (l *limits) checkup(next http.Handler) http.Handler {
+	return limit.Requests(l.health, 0, l.address, limit.Responses(l.pace, next))
 }
 
 // serve passes requests to next, as many as may be served at once. The others wait for their turn.

@@ -180,12 +180,7 @@ func (c *config) handler(dav *davserve.Handler, limits *limits, meter *meter, lo
 		return nil, err
 	}
 	logged := meter.around(accesslog.New(logger, served.handler(outer), meter.observers()...))
-	return limit.Unread(c.options.StallTimeout, limit.Responses(c.pace(), logged)), nil
-}
-
-// pace is how fast a client has to send and to receive.
-func (c *config) pace() limit.Pace {
-	return limit.Pace{Stall: c.options.StallTimeout, Least: c.options.LeastRate}
+	return limit.Unread(c.options.StallTimeout, logged), nil
 }
 
 // logUser has the log show the user.
