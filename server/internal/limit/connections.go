@@ -231,22 +231,26 @@ func (c *Connections) victim() (longest *place) {
 	if p == nil {
 		return nil
 	}
-	var greatest *peer
 	for _, other := range c.peers {
 		if other == p || other.isProxy || (!p.isProxy && len(other.open) < len(p.open)+2) {
 			continue
 		}
-		if greatest == nil || len(other.open) > len(greatest.open) {
-			greatest = other
+		if longest != nil && len(other.open) < len(longest.peer.open) {
+			continue
+		}
+		if it := other.rested(); it != nil {
+			longest = it
 		}
 	}
-	if greatest == nil {
-		return nil
-	}
-	rested := time.Now().Add(-restTime)
-	for it := range greatest.open {
-		if it.busy == 0 && it.rested.Before(rested) {
-			longest, rested = it, it.rested
+	return longest
+}
+
+// rested returns the connection that has rested longest, or nil if none has for long enough.
+func (p *peer) rested() (longest *place) {
+	least := time.Now().Add(-restTime)
+	for it := range p.open {
+		if it.busy == 0 && it.rested.Before(least) {
+			longest, least = it, it.rested
 		}
 	}
 	return longest

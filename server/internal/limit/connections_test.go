@@ -161,6 +161,24 @@ func TestConnectionsConverge(t *testing.T) {
 	}
 }
 
+// If the client with the most connections is busy with all of them, one of another client is closed.
+func TestConnectionsOfTheNextOne(t *testing.T) {
+	const most = 8
+	l, hold := shared(t, most)
+	defer close(hold)
+	for i := 0; i < most; i++ {
+		if i < 3 {
+			from(t, "127.0.0.2", l)
+			continue
+		}
+		fmt.Fprint(from(t, "127.0.0.1", l), "GET /slow HTTP/1.1\r\nHost: h\r\n\r\n")
+	}
+	eventually(t, "one client is busy", func() bool { open, _ := l.Use(); return open == most && l.busy() == most-3 })
+	if !served(from(t, "127.0.0.3", l), "/", 3*time.Second) {
+		t.Error("a client without a connection is not served")
+	}
+}
+
 // Few connections wait, those beyond are closed, and never all of another client.
 func TestConnectionsThatWait(t *testing.T) {
 	l, hold := shared(t, 1)
