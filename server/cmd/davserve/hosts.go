@@ -53,9 +53,13 @@ func isAddress(name string) bool {
 	return err == nil
 }
 
-// has reports whether a server may be reached by the Host of a request.
+// has reports whether a server may be reached by the Host of a request. Without one, as in HTTP/1.0, it may: no browser
+// sends that.
 func (h hosts) has(host string) bool {
 	name := nameIn(host)
+	if name == "" {
+		return true
+	}
 	if address, err := netip.ParseAddr(name); err == nil && address.Unmap().IsLoopback() {
 		return true
 	}
@@ -68,7 +72,7 @@ func (h hosts) handler(next http.Handler) http.Handler {
 		return next
 	}
 	return http.HandlerFunc(func(w http.ResponseWriter, r *http.Request) {
-		if h.has(r.Host) {
+		if h.has(r.Host) || r.Method == http.MethodConnect { // whose host is another server, and which is 405
 			next.ServeHTTP(w, r)
 			return
 		}
