@@ -10,7 +10,7 @@ from server import Server, expect, expected
 
 HEADER, STALL, IDLE = 1, 2, 3
 FLAGS = "-header-timeout", f"{HEADER}s", "-stall-timeout", f"{STALL}s", "-idle-timeout", f"{IDLE}s"
-GROUP = Group("hostile", *FLAGS, "-max-body", "64M")
+GROUP = Group("hostile", *FLAGS, "-max-body", "64M", "-host", "x")
 GROUPS = [GROUP]
 SLACK = 4  # seconds beyond a timeout, for a busy machine
 

@@ -280,6 +280,20 @@ def lists(server):
     return f"{statuses.count(207)} of {len(statuses)} were served"
 
 
+@BYTES.check("XML bodies count by their length: one client has half of -xml-memory, and short ones are free")
+def xml(server):
+    fields = {"Content-Length": "700000", "Depth": "0"}
+    short = b'<propfind xmlns="DAV:"><allprop/></propfind>'
+    with server.connect(source=GREEDY) as first, server.connect(source=GREEDY) as second:
+        first.send(head("PROPFIND", "/", server.port, None, fields) + b" ")
+        time.sleep(0.2)
+        second.send(head("PROPFIND", "/", server.port, None, fields) + b" " * 700_000)
+        with server.connect(source=GREEDY) as third:
+            third.request("PROPFIND", "/", short, {"Depth": "0"})
+            expected(third.answer(), 207, "PROPFIND /")
+        expected(second.answer(), 503, "PROPFIND /")
+
+
 # ---- users and addresses
 
 

@@ -240,3 +240,48 @@ func TestDisable(t *testing.T) {
 		t.Errorf("the protocol is %q", got)
 	}
 }
+
+// The server announces its limits, and refuses a request beyond them.
+func TestStreams(t *testing.T) {
+	hold := make(chan struct{})
+	var now atomic.Int64
+	c := served(t, func(http.ResponseWriter, *http.Request) {
+		now.Add(1)
+		<-hold
+	})
+	want := map[http2.SettingID]uint32{
+		http2.SettingMaxConcurrentStreams: Streams,
+		http2.SettingInitialWindowSize:    uploadSize,
+		http2.SettingMaxFrameSize:         frameSize,
+	}
+	f, err := c.ReadFrame()
+	if err != nil {
+		t.Fatal(err)
+	}
+	for id, value := range want {
+		if got, _ := f.(*http2.SettingsFrame).Value(id); got != value {
+			t.Errorf("%v is %d, want %d", id, got, value)
+		}
+	}
+	c.WriteSettingsAck()
+	var last uint32
+	for i := 0; i <= Streams; i++ {
+		last = c.get()
+	}
+	for {
+		f, err := c.ReadFrame()
+		if err != nil {
+			t.Fatalf("the request beyond the limit is not refused: %v", err)
+		}
+		if reset, ok := f.(*http2.RSTStreamFrame); ok {
+			if reset.StreamID != last {
+				t.Errorf("stream %d is reset, want %d", reset.StreamID, last)
+			}
+			break
+		}
+	}
+	if n := now.Load(); n > Streams {
+		t.Errorf("%d requests are under way", n)
+	}
+	close(hold)
+}
