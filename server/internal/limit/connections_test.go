@@ -2,11 +2,13 @@ package limit
 
 import (
 	"bufio"
+	"crypto/tls"
 	"errors"
 	"fmt"
 	"io"
 	"net"
 	"net/http"
+	"net/http/httptest"
 	"os"
 	"sync"
 	"testing"
@@ -275,5 +277,44 @@ func TestConnectionsRace(t *testing.T) {
 	defer l.mu.Unlock()
 	if len(l.peers) != 0 {
 		t.Errorf("%d clients are kept", len(l.peers))
+	}
+}
+
+// With TLS, too, a connection is known by which a request comes.
+func TestConnectionsWithTLS(t *testing.T) {
+	for _, isBusy := range []bool{false, true} {
+		t.Run(fmt.Sprintf("busy: %v", isBusy), func(t *testing.T) {
+			hold, entered := make(chan struct{}), make(chan struct{}, 10)
+			server := httptest.NewUnstartedServer(nil)
+			l := NewConnections(server.Listener, 2, time.Minute, bySource)
+			server.Listener = l
+			server.Config.ConnContext = ConnContext
+			server.Config.Handler = l.Handler(http.HandlerFunc(func(w http.ResponseWriter, r *http.Request) {
+				entered <- struct{}{}
+				if r.URL.Path == "/slow" {
+					<-hold
+				}
+			}))
+			server.StartTLS()
+			defer server.Close()
+			defer close(hold)
+			path := "/"
+			if isBusy {
+				path = "/slow"
+			}
+			for i := 0; i < 2; i++ {
+				c := tls.Client(from(t, "127.0.0.1", l), &tls.Config{InsecureSkipVerify: true})
+				fmt.Fprintf(c, "GET %s HTTP/1.1\r\nHost: h\r\n\r\n", path)
+				<-entered
+			}
+			within := 3 * time.Second
+			if isBusy {
+				within = 500 * time.Millisecond
+			}
+			late := tls.Client(from(t, "127.0.0.2", l), &tls.Config{InsecureSkipVerify: true})
+			if served(late, "/", within) == isBusy {
+				t.Errorf("another client is served: %v", !isBusy)
+			}
+		})
 	}
 }
