@@ -191,14 +191,14 @@ func (c *config) addLimits(flags *flag.FlagSet) {
 	flags.DurationVar(&o.MaxLock, "max-lock", 10*time.Minute, "longest time until a lock expires")
 	flags.IntVar(&o.MaxInfinity, "max-infinity", 0, "greatest `number` of resources in a PROPFIND of Depth infinity")
 	flags.IntVar(&o.ClientShare, "client-share", 50, "`percentage` of each limit for all that one client may use")
-	flags.Var((*size.Size)(&o.MaxUploads), "max-uploads", "greatest `size` of all bodies that arrive (default 64 bodies)")
+	flags.Var((*size.Size)(&o.MaxUploads), "max-uploads", "greatest `size` of all uploads under way (default 64 times -max-body)")
 	flags.Var((*size.Size)(&o.XMLMemory), "xml-memory", "greatest `size` of the memory for XML and lists of members")
 	flags.Var((*size.Size)(&o.LeastRate), "least-rate", "`bytes` a second that a client must send or receive; 0: any")
 	flags.IntVar(&c.maxConnections, "max-connections", 1024, "greatest `number` of open connections")
 	flags.IntVar(&c.maxRequests, "max-requests", 256, "greatest `number` of requests at once")
 	flags.DurationVar(&c.headerTimeout, "header-timeout", 20*time.Second, "time for the header of a request")
 	flags.DurationVar(&c.idleTimeout, "idle-timeout", 2*time.Minute, "time until an idle connection is closed")
-	flags.DurationVar(&o.StallTimeout, "stall-timeout", time.Minute, "time for the next part of a body")
+	flags.DurationVar(&o.StallTimeout, "stall-timeout", time.Minute, "time that a body or a response may wait for its client")
 	flags.DurationVar(&c.shutdownTimeout, "shutdown-timeout", 10*time.Second, "time for requests under way at the end")
 }
 
