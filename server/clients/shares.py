@@ -262,7 +262,7 @@ def lists(server):
     with server.connect(seconds=30) as connection:
         connection.request("MKCOL", "/many/")
         expected(connection.answer(), 201, "MKCOL")
-        for number in range(2000):
+        for number in range(800):
             connection.request("PUT", f"/many/{number}", b"")
             expected(connection.answer("PUT"), 201, "PUT")
     statuses = []
