@@ -4,8 +4,11 @@ go 1.19
 
 require (
 	golang.org/x/crypto v0.4.0
-	golang.org/x/sys v0.3.0
+	golang.org/x/net v0.7.0
+	golang.org/x/sys v0.5.0
 )
+
+require golang.org/x/text v0.7.0 // indirect
 
 // Debian's package golang-golang-x-crypto-dev and what it uses, so that a build needs no network.
 replace (

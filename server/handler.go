@@ -20,6 +20,7 @@ import (
 	"davserve/internal/detach"
 	"davserve/internal/frame"
 	"davserve/internal/limit"
+	"davserve/internal/share"
 )
 
 // A Handler is a WebDAV server. New makes one.
@@ -30,6 +31,9 @@ type Handler struct {
 	quota   *quota // nil: no limit
 	trees   trees
 	checks  *checks
+	memory  *share.Pool // bytes of XML and of lists
+	uploads *share.Pool // bytes of uploads under way
+	sizes   *sizes
 }
 
 // New starts davd and returns a handler over it. The caller must close the handler. With a folder, New waits until davd
@@ -56,7 +60,12 @@ func New(ctx context.Context, options Options) (*Handler, error) {
 	if err != nil {
 		return nil, err
 	}
-	h := &Handler{options: options, host: host, engine: engine, checks: newChecks()}
+	h := &Handler{
+		options: options, host: host, engine: engine, checks: newChecks(),
+		memory:  share.NewPool(options.XMLMemory, options.ClientShare, waitingShares),
+		uploads: share.NewPool(options.MaxUploads, options.ClientShare, waitingShares),
+		sizes:   newSizes(),
+	}
 	if options.Quota > 0 {
 		h.quota = newQuota(options.Quota, h.used)
 	}
@@ -140,7 +149,8 @@ func (e statusError) Error() string {
 // client does then.
 func (h *Handler) ServeHTTP(w http.ResponseWriter, r *http.Request) {
 	w.Header().Set("X-Content-Type-Options", "nosniff")
-	r = detach.Request(r)
+	r, memory := h.withHolding(detach.Request(r))
+	defer memory.release()
 	if err := h.serve(w, r); err != nil {
 		h.fail(w, r, err)
 	}
@@ -194,6 +204,9 @@ func (h *Handler) fail(w http.ResponseWriter, r *http.Request, err error) {
 		h.failWith(w, r, failed.Status)
 	case errors.Is(err, davd.ErrKept), errors.Is(err, davd.ErrUnknown):
 		panic(http.ErrAbortHandler) // Any response could be wrong.
+	case errors.Is(err, share.ErrBusy):
+		w.Header().Set("Retry-After", "1")
+		h.failWith(w, r, http.StatusServiceUnavailable)
 	case errors.Is(err, davd.ErrFull):
 		h.failWith(w, r, http.StatusInsufficientStorage)
 	case errors.Is(err, davd.ErrLost), errors.Is(err, davd.ErrDown), errors.Is(err, davd.ErrClosed):

@@ -4,6 +4,7 @@ import (
 	"errors"
 	"fmt"
 	"log"
+	"math"
 	"net/http"
 	"net/url"
 	"path/filepath"
@@ -28,6 +29,16 @@ type Options struct {
 	// Principal returns the authenticated user of a request, and false if there is none. Nil: there is never one.
 	// Requests without a user can use each other's locks.
 	Principal func(*http.Request) (string, bool)
+	// Client returns who has sent a request, for the shares of clients. Nil: its user or, without one, the address at the
+	// other end of its connection, of IPv6 the first 64 bits.
+	Client func(*http.Request) string
+	// ClientShare is the percentage of each limit for all that one client may use, of what the others leave. 0: 50.
+	ClientShare int
+	// XMLMemory is how much memory all requests together may use for XML bodies and for lists of members. 0: 512 MiB.
+	XMLMemory int64
+	// MaxUploads is how many bytes the bodies of all PUT and PATCH under way may have together. 0: 64 times MaxBody and,
+	// without a folder, no more than Memory.
+	MaxUploads int64
 	// Rights is the text of the access rules in TOML. Empty: none, and each user may do everything. To allow nothing at
 	// all, use a text with a line end.
 	Rights string
@@ -52,6 +63,9 @@ type Options struct {
 	// StallTimeout is how long a client may take to send or to receive a part of a body. 0: one minute. It needs
 	// ConnContext in the http.Server.
 	StallTimeout time.Duration
+	// LeastRate is how many bytes a second a client must send of a body, on average, once it has let the server wait for
+	// StallTimeout in all. 0: it must send something within each StallTimeout.
+	LeastRate int64
 	// Log gets a line when davd ends or a response breaks off. Nil: the standard logger.
 	Log *log.Logger
 }
@@ -59,6 +73,9 @@ type Options struct {
 const (
 	defaultMaxBody      = 1 << 30
 	defaultMaxXML       = 1 << 20
+	defaultXMLMemory    = 512 << 20
+	defaultShare        = 50
+	uploadsOfMaxBody    = 64
 	defaultMaxLock      = 10 * time.Minute
 	defaultStallTimeout = time.Minute
 
@@ -80,7 +97,7 @@ func (o Options) complete() (Options, error) {
 		}
 		o.Folder = folder
 	}
-	for _, n := range []int64{o.MaxBody, o.MaxXML, int64(o.MaxInfinity), o.Quota, o.Memory} {
+	for _, n := range []int64{o.MaxBody, o.MaxXML, int64(o.MaxInfinity), o.Quota, o.Memory, o.LeastRate, o.XMLMemory, o.MaxUploads} {
 		if n < 0 {
 			return o, fmt.Errorf("a limit is negative: %d", n)
 		}
@@ -88,11 +105,17 @@ func (o Options) complete() (Options, error) {
 	if 0 < o.Memory && o.Memory < leastMemory {
 		return o, fmt.Errorf("davd needs more memory than %d bytes: at least %d", o.Memory, leastMemory)
 	}
+	if o.ClientShare < 0 || o.ClientShare > 100 {
+		return o, fmt.Errorf("the share of a client is not 1 to 100 percent: %d", o.ClientShare)
+	}
 	if o.MaxLock < 0 || o.StallTimeout < 0 {
 		return o, errors.New("a time is negative")
 	}
 	setDefault(&o.MaxBody, defaultMaxBody)
 	setDefault(&o.MaxXML, defaultMaxXML)
+	setDefault(&o.XMLMemory, defaultXMLMemory)
+	setDefault(&o.ClientShare, defaultShare)
+	setDefault(&o.MaxUploads, o.defaultUploads())
 	setDefault(&o.MaxLock, defaultMaxLock)
 	setDefault(&o.StallTimeout, defaultStallTimeout)
 	if o.Log == nil {
@@ -102,6 +125,18 @@ func (o Options) complete() (Options, error) {
 		o.Principal = func(*http.Request) (string, bool) { return "", false }
 	}
 	return o, nil
+}
+
+// defaultUploads returns how many bytes may be under way. Without a folder davd has them in its memory.
+func (o Options) defaultUploads() int64 {
+	uploads := int64(math.MaxInt64)
+	if o.MaxBody < math.MaxInt64/uploadsOfMaxBody {
+		uploads = uploadsOfMaxBody * o.MaxBody
+	}
+	if o.Folder == "" && 0 < o.Memory && o.Memory < uploads {
+		return o.Memory
+	}
+	return uploads
 }
 
 func setDefault[T comparable](value *T, standard T) {

@@ -60,7 +60,7 @@ func (h *Handler) answer(w http.ResponseWriter, r *http.Request, request *frame.
 
 // ask sends a request to davd and returns its response.
 func (h *Handler) ask(ctx context.Context, request *frame.Request) (*frame.Response, error) {
-	return responseOf(h.engine.Do(ctx, request))
+	return h.askFor(ctx, request)
 }
 
 // responseOf makes sure that the reply to a request is a response.

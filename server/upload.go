@@ -2,7 +2,6 @@ package davserve
 
 import (
 	"context"
-	"fmt"
 	"io"
 	"net/http"
 	"strconv"
@@ -33,7 +32,12 @@ func (h *Handler) upload(w http.ResponseWriter, r *http.Request) error {
 	if err != nil {
 		return err
 	}
-	body := content.Reader(h.bodyOf(r))
+	counts, err := h.beginUpload(r)
+	if err != nil {
+		return err
+	}
+	defer counts.lease.Release()
+	body := content.Reader(&countedBody{body: h.bodyOf(r), counts: counts})
 	first, err := readFirst(body, r.ContentLength)
 	switch {
 	case err == io.EOF && len(first) > 0 && h.keeps() && r.Method == http.MethodPut:
@@ -43,9 +47,24 @@ func (h *Handler) upload(w http.ResponseWriter, r *http.Request) error {
 		request.Body = frame.Bytes(first)
 		return h.finish(w, r, request, content, int64(len(first)), h.engine.Do)
 	case err != nil:
-		return fmt.Errorf("%w: %v", errVanished, err)
+		return vanished(err)
 	}
 	return h.store(w, r, request, content, first, body)
+}
+
+// A countedBody has the bytes of an upload count.
+type countedBody struct {
+	body   io.Reader
+	counts *underWay
+}
+
+// Read implements io.Reader.
+func (b *countedBody) Read(p []byte) (int, error) {
+	n, err := b.body.Read(p)
+	if busy := b.counts.came(n); busy != nil {
+		return n, busy
+	}
+	return n, err
 }
 
 // isPartial reports whether an upload has only a part of a file.
@@ -133,7 +152,7 @@ func (h *Handler) sendPieces(ctx context.Context, to *davd.Body, buffer []byte, 
 			return nil, length, err
 		}
 		if n, end = fill(rest, buffer); end != nil && end != io.EOF {
-			return nil, length, fmt.Errorf("%w: %v", errVanished, end)
+			return nil, length, vanished(end)
 		}
 	}
 }

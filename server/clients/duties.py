@@ -6,7 +6,7 @@ from multistatus import D
 from server import Server, expect
 
 PATCH_TYPE = {"Content-Type": "application/x-sabredav-partialupdate"}
-GROUP = Group("duties", "-max-body", "4M")
+GROUP = Group("duties", "-max-body", "4M", "-host", "dav.example.org")
 INFINITY = Group("max-infinity", "-max-infinity", "5")
 GROUPS = [GROUP, INFINITY]
 

@@ -10,7 +10,7 @@ from server import Server, expect, expected
 
 HEADER, STALL, IDLE = 1, 2, 3
 FLAGS = "-header-timeout", f"{HEADER}s", "-stall-timeout", f"{STALL}s", "-idle-timeout", f"{IDLE}s"
-GROUP = Group("hostile", *FLAGS, "-max-body", "64M")
+GROUP = Group("hostile", *FLAGS, "-max-body", "64M", "-host", "x")
 GROUPS = [GROUP]
 SLACK = 4  # seconds beyond a timeout, for a busy machine
 
@@ -102,11 +102,11 @@ for name, method, fields, start in BODIES:
 
 @GROUP.check("a body that arrives slowly, but arrives, is stored")
 def slow_body(server):
-    body = b"0123456789" * 4
+    body = b"0123456789" * 40
     with server.connect() as connection:
         connection.send(head("PUT", "/slow", server.port, None, {"Content-Length": str(len(body))}))
-        for byte in range(0, len(body), 4):
-            connection.send(body[byte : byte + 4])
+        for byte in range(0, len(body), 40):
+            connection.send(body[byte : byte + 40])
             time.sleep(0.3)
         expected(connection.answer("PUT"), 201, "PUT /slow")
     expect("the file", server.ask("GET", "/slow").body, body)

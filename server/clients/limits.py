@@ -10,7 +10,7 @@ from server import expect, expected, memory_of
 
 MB = 1 << 20
 CONNECTIONS = Group("max-connections", "-max-connections", "4")
-REQUESTS = Group("max-requests", "-max-requests", "2", "-stall-timeout", "20s")
+REQUESTS = Group("max-requests", "-max-requests", "2", "-client-share", "100", "-stall-timeout", "20s")
 MEMORY = Group("memory", is_shared=False, is_measured=True)
 GROUPS = [CONNECTIONS, REQUESTS, MEMORY]
 

@@ -33,6 +33,8 @@ type config struct {
 	cert, key      string
 	selfSigned     bool
 	corsOrigins    texts
+	hosts          texts
+	http2          bool
 	maxConnections int
 	maxRequests    int
 
@@ -51,6 +53,16 @@ func (t *texts) String() string { return strings.Join(*t, " ") }
 // Set implements flag.Value.
 func (t *texts) Set(text string) error {
 	*t = append(*t, text)
+	return nil
+}
+
+// check returns the error of the first text that has one.
+func (t texts) check(check func(string) error) error {
+	for _, text := range t {
+		if err := check(text); err != nil {
+			return fmt.Errorf("%q: %w", text, err)
+		}
+	}
 	return nil
 }
 
@@ -96,7 +108,7 @@ Each has a help of its own, such as davserve backup -h.
 
 // parse reads the command line. What is wrong with it, or the help that it asks for, is written to the output.
 func parse(arguments []string, output io.Writer) (config, error) {
-	c := config{options: davserve.Options{MaxBody: 1 << 30, MaxXML: 1 << 20, Memory: 1 << 30}}
+	c := config{options: davserve.Options{MaxBody: 1 << 30, MaxXML: 1 << 20, Memory: 1 << 30, XMLMemory: 512 << 20, LeastRate: 100}}
 	flags := c.flags(output)
 	if err := flags.Parse(arguments); err != nil {
 		return c, err
@@ -135,6 +147,8 @@ func (c *config) addServing(flags *flag.FlagSet) {
 	flags.StringVar(&c.cert, "cert", "", "`file` with the certificates for TLS, in PEM")
 	flags.StringVar(&c.key, "key", "", "`file` with the key for TLS, in PEM")
 	flags.BoolVar(&c.selfSigned, "tls-self-signed", false, "speak TLS with a certificate that is made at the start")
+	flags.BoolVar(&c.http2, "http2", true, "speak HTTP/2 with TLS")
+	flags.Var(&c.hosts, "host", "a `name` by which clients reach a server without users on the loopback (repeatable)")
 	flags.StringVar(&c.metrics, "metrics", "", "`address` at which Prometheus gets metrics (default: none)")
 	flags.Var(&c.corsOrigins, "cors-origin", "`origin` whose pages may use the server (repeatable)")
 	flags.BoolVar(&c.version, "version", false, "print the version and end")
@@ -176,11 +190,15 @@ func (c *config) addLimits(flags *flag.FlagSet) {
 	flags.Var((*size.Size)(&o.Memory), "memory", "greatest `size` of the memory of davd; 0: no limit")
 	flags.DurationVar(&o.MaxLock, "max-lock", 10*time.Minute, "longest time until a lock expires")
 	flags.IntVar(&o.MaxInfinity, "max-infinity", 0, "greatest `number` of resources in a PROPFIND of Depth infinity")
+	flags.IntVar(&o.ClientShare, "client-share", 50, "`percentage` of each limit for all that one client may use")
+	flags.Var((*size.Size)(&o.MaxUploads), "max-uploads", "greatest `size` of all uploads under way (default 64 times -max-body)")
+	flags.Var((*size.Size)(&o.XMLMemory), "xml-memory", "greatest `size` of the memory for XML and lists of members")
+	flags.Var((*size.Size)(&o.LeastRate), "least-rate", "`bytes` a second that a client must send or receive; 0: any")
 	flags.IntVar(&c.maxConnections, "max-connections", 1024, "greatest `number` of open connections")
 	flags.IntVar(&c.maxRequests, "max-requests", 256, "greatest `number` of requests at once")
 	flags.DurationVar(&c.headerTimeout, "header-timeout", 20*time.Second, "time for the header of a request")
 	flags.DurationVar(&c.idleTimeout, "idle-timeout", 2*time.Minute, "time until an idle connection is closed")
-	flags.DurationVar(&o.StallTimeout, "stall-timeout", time.Minute, "time for the next part of a body")
+	flags.DurationVar(&o.StallTimeout, "stall-timeout", time.Minute, "time that a body or a response may wait for its client")
 	flags.DurationVar(&c.shutdownTimeout, "shutdown-timeout", 10*time.Second, "time for requests under way at the end")
 }
 
@@ -195,12 +213,18 @@ func (c *config) check(rest []string) error {
 		return errors.New("-cert and -tls-self-signed exclude each other")
 	case c.users != "" && c.userHeader != "":
 		return errors.New("-users and -user-header exclude each other")
-	case (c.userHeader != "") != (len(c.trustedProxies) > 0):
-		return errors.New("-user-header and -trusted-proxy need each other")
+	case c.userHeader != "" && len(c.trustedProxies) == 0:
+		return errors.New("-user-header needs -trusted-proxy")
+	case c.options.ClientShare < 1 || c.options.ClientShare > 100:
+		return errors.New("-client-share is 1 to 100")
+	case c.options.XMLMemory < 1:
+		return errors.New("-xml-memory is more than 0")
 	case c.maxConnections < 1 || c.maxRequests < 1:
 		return errors.New("-max-connections and -max-requests are at least 1")
 	case c.headerTimeout <= 0 || c.idleTimeout <= 0 || c.shutdownTimeout <= 0 || c.options.StallTimeout <= 0:
 		return errors.New("a timeout is more than 0")
+	case c.hosts.check(checkName) != nil:
+		return fmt.Errorf("-host: %w", c.hosts.check(checkName))
 	case c.options.MaxLock < time.Second:
 		return errors.New("-max-lock is at least one second")
 	}

@@ -19,10 +19,14 @@ func TestParseRefuses(t *testing.T) {
 		{"-cert c", "-cert and -key need each other"},
 		{"-cert c -key k -tls-self-signed", "exclude each other"},
 		{"-users u -user-header X -trusted-proxy 10.0.0.0/8", "exclude each other"},
-		{"-user-header X", "need each other"},
-		{"-trusted-proxy 10.0.0.0/8", "need each other"},
+		{"-user-header X", "needs -trusted-proxy"},
 		{"-trusted-proxy 10.0.0.1", "invalid value"},
 		{"-max-connections 0", "at least 1"},
+		{"-client-share 0", "1 to 100"},
+		{"-client-share 101", "1 to 100"},
+		{"-xml-memory 0", "more than 0"},
+		{"-host a:80", "without a port"},
+		{"-host=", "name of a host"},
 		{"-max-requests 0", "at least 1"},
 		{"-idle-timeout 0s", "more than 0"},
 		{"-stall-timeout -1s", "more than 0"},
@@ -58,6 +62,8 @@ func TestParseAccepts(t *testing.T) {
 		"",
 		"-listen 127.0.0.1:0",
 		"-listen [::1]:8080",
+		"-listen [::1]:8080 -host dav.example -host [fe80::1]",
+		"-trusted-proxy 10.0.0.0/8",
 		"-listen localhost:8080 -users u",
 		"-listen :8080 -anonymous",
 		"-listen :443 -users u -cert c -key k",
@@ -113,8 +119,8 @@ func TestTheDocumentsHaveEachOption(t *testing.T) {
 	(&config{}).flags(io.Discard).VisitAll(func(f *flag.Flag) { want = append(want, f.Name) })
 	sort.Strings(want)
 	tests := []struct{ document, line, option string }{
-		{"../../install/davserve.1", `(?m)^\.It Fl .*`, `Fl ([a-z-]+)`},
-		{"../../../docs/SERVER.md", "(?m)^\\| `-[^|]*", "`-([a-z-]+)"},
+		{"../../install/davserve.1", `(?m)^\.It Fl .*`, `Fl ([a-z0-9-]*[a-z0-9])`},
+		{"../../../docs/SERVER.md", "(?m)^\\| `-[^|]*", "`-([a-z0-9-]*[a-z0-9])"},
 	}
 	for _, test := range tests {
 		got := optionsIn(t, test.document, regexp.MustCompile(test.line), regexp.MustCompile(test.option))

@@ -43,6 +43,13 @@ type meter struct {
 	times    *metrics.Vec[metrics.Histogram]
 	underWay atomic.Int64
 	dav      atomic.Pointer[davserve.Handler] // nil: davd is started
+	shared   atomic.Pointer[watched]          // nil: nothing is served yet
+}
+
+// watched is what clients share.
+type watched struct {
+	connections *limit.Connections
+	limits      *limits
 }
 
 func newMeter(c config, logger *log.Logger) *meter {
@@ -87,6 +94,13 @@ func (c *config) meter(logger *log.Logger) (m *meter, closeMetrics func(), err e
 func (m *meter) show(dav *davserve.Handler) {
 	if m != nil {
 		m.dav.Store(dav)
+	}
+}
+
+// watch adds the metrics of what waits for its share.
+func (m *meter) watch(connections *limit.Connections, limits *limits) {
+	if m != nil {
+		m.shared.Store(&watched{connections, limits})
 	}
 }
 
@@ -170,6 +184,14 @@ func (m *meter) write(ctx context.Context, w *bytes.Buffer) error {
 	e.Counter("davserve_sent_bytes_total", "Bytes that were sent to clients, with those of TLS.", m.traffic.Sent.Value())
 	e.Gauge("davserve_requests_under_way", "Requests that have not ended.", float64(m.underWay.Load()))
 	e.Gauge("davserve_requests_limit", "The option -max-requests.", float64(m.config.maxRequests))
+	if shared := m.shared.Load(); shared != nil {
+		_, waiting := shared.connections.Use()
+		e.Gauge("davserve_connections_waiting", "Connections that wait for a place.", float64(waiting))
+		inside, _ := shared.limits.inside.Use()
+		e.Gauge("davserve_requests_inside", "Requests in the server, with those that log in or wait.", float64(inside))
+		_, turns := shared.limits.requests.Use()
+		e.Gauge("davserve_requests_waiting", "Requests that wait for their turn.", float64(turns))
+	}
 	e.Counters("davserve_requests_total", "Requests that have ended, by their methods and the statuses of their responses.", m.requests)
 	e.Histograms("davserve_request_duration_seconds", "Time from the header of a request to the end of its response.", m.times)
 	if lines, ok := m.log.Writer().(*logqueue.Queue); ok {

@@ -4,7 +4,6 @@ import (
 	"context"
 	"errors"
 	"fmt"
-	"io"
 	"log"
 	"net"
 	"net/http"
@@ -16,6 +15,7 @@ import (
 	"davserve/internal/control"
 	"davserve/internal/cors"
 	"davserve/internal/detach"
+	"davserve/internal/h2"
 	"davserve/internal/limit"
 	"davserve/internal/systemd"
 )
@@ -62,6 +62,7 @@ func (c *config) complete(logger *log.Logger) (err error) {
 	}
 	c.options.Log = logger
 	c.options.Principal = func(r *http.Request) (string, bool) { return auth.User(r.Context()) }
+	c.options.Client = func(r *http.Request) string { return string(c.client(r)) }
 	if c.rights != "" {
 		c.options.Rights, err = readRights(c.rights)
 	}
@@ -70,7 +71,8 @@ func (c *config) complete(logger *log.Logger) (err error) {
 
 // serveHTTP serves over HTTP until ctx is done and the requests under way are answered.
 func (c *config) serveHTTP(ctx context.Context, dav *davserve.Handler, meter *meter, logger *log.Logger) error {
-	handler, err := c.handler(dav, meter, logger)
+	limits := c.newLimits()
+	handler, err := c.handler(dav, limits, meter, logger)
 	if err != nil {
 		return err
 	}
@@ -82,8 +84,10 @@ func (c *config) serveHTTP(ctx context.Context, dav *davserve.Handler, meter *me
 	if err != nil {
 		return err
 	}
+	shared := limit.NewConnections(meter.listener(listener), c.maxConnections, c.options.StallTimeout, limits.connection)
+	meter.watch(shared, limits)
 	server := &http.Server{
-		Handler:           handler,
+		Handler:           shared.Handler(handler),
 		ReadHeaderTimeout: c.headerTimeout,
 		IdleTimeout:       c.idleTimeout,
 		MaxHeaderBytes:    maxHeaderBytes,
@@ -91,8 +95,23 @@ func (c *config) serveHTTP(ctx context.Context, dav *davserve.Handler, meter *me
 		TLSConfig:         tlsConfig,
 		ErrorLog:          logger,
 	}
+	if err := c.configureHTTP2(server); err != nil {
+		return err
+	}
 	c.announce(logger, listener.Addr())
-	return c.serveUntil(ctx, server, limit.Listener(meter.listener(listener), c.maxConnections, c.options.StallTimeout))
+	return c.serveUntil(ctx, server, shared)
+}
+
+// configureHTTP2 has a server with TLS speak HTTP/2, or not.
+func (c *config) configureHTTP2(server *http.Server) error {
+	switch {
+	case !c.hasTLS():
+		return nil
+	case c.http2:
+		return h2.Configure(server)
+	}
+	h2.Disable(server)
+	return nil
 }
 
 // control answers the commands of an operator until the function that it returns is called. Without a folder it does so
@@ -137,8 +156,8 @@ func closeDavd(dav *davserve.Handler, timeout time.Duration, served error) error
 
 // handler puts the handlers one around the other. The health of the server is nobody's secret, and it is shown under
 // load, too.
-func (c *config) handler(dav *davserve.Handler, meter *meter, logger *log.Logger) (http.Handler, error) {
-	inner, err := c.authenticate(logUser(dav), logger)
+func (c *config) handler(dav *davserve.Handler, limits *limits, meter *meter, logger *log.Logger) (http.Handler, error) {
+	inner, err := c.authenticate(logUser(limits.serve(dav)), limits, logger)
 	if err != nil {
 		return nil, err
 	}
@@ -147,16 +166,21 @@ func (c *config) handler(dav *davserve.Handler, meter *meter, logger *log.Logger
 			return nil, err
 		}
 	}
-	inner = detach.Changes(limit.Requests(c.maxRequests, inner))
-	health := healthHandler(dav)
+	inner = limits.enter(detach.Changes(inner))
+	checkups := (&health{check: dav.Check}).handler(limits)
 	outer := http.HandlerFunc(func(w http.ResponseWriter, r *http.Request) {
 		if r.URL.Path == healthPath {
-			health.ServeHTTP(w, r)
+			checkups.ServeHTTP(w, r)
 			return
 		}
 		inner.ServeHTTP(w, r)
 	})
-	return limit.Unread(c.options.StallTimeout, meter.around(accesslog.New(logger, outer, meter.observers()...))), nil
+	served, err := c.hostsServed()
+	if err != nil {
+		return nil, err
+	}
+	logged := meter.around(accesslog.New(logger, served.handler(outer), meter.observers()...))
+	return limit.Unread(c.options.StallTimeout, logged), nil
 }
 
 // logUser has the log show the user.
@@ -170,7 +194,7 @@ func logUser(next http.Handler) http.Handler {
 }
 
 // authenticate returns a handler that finds the user of each request, if the server has users.
-func (c *config) authenticate(next http.Handler, logger *log.Logger) (http.Handler, error) {
+func (c *config) authenticate(next http.Handler, limits *limits, logger *log.Logger) (http.Handler, error) {
 	switch {
 	case c.users != "":
 		users, err := auth.Load(c.users)
@@ -182,6 +206,7 @@ func (c *config) authenticate(next http.Handler, logger *log.Logger) (http.Handl
 		if err != nil {
 			return nil, err
 		}
+		basic.SetAddress(limits.proxies.Address)
 		return basic.Handler(next), nil
 	case c.userHeader != "":
 		proxy, err := auth.NewProxy(c.userHeader, c.trustedProxies, c.realm)
@@ -191,29 +216,6 @@ func (c *config) authenticate(next http.Handler, logger *log.Logger) (http.Handl
 		return proxy.Handler(next), nil
 	}
 	return next, nil
-}
-
-// healthPath is the path at which the server says whether it works. A resource of this path cannot be reached.
-const healthPath = "/-/health"
-
-// healthHandler answers whether davd answers.
-func healthHandler(dav *davserve.Handler) http.Handler {
-	return http.HandlerFunc(func(w http.ResponseWriter, r *http.Request) {
-		if r.Method != http.MethodGet && r.Method != http.MethodHead {
-			w.Header().Set("Allow", "GET, HEAD")
-			http.Error(w, "405 Method Not Allowed", http.StatusMethodNotAllowed)
-			return
-		}
-		ctx, cancel := context.WithTimeout(r.Context(), 5*time.Second)
-		defer cancel()
-		w.Header().Set("Cache-Control", "no-store")
-		if err := dav.Check(ctx); err != nil {
-			http.Error(w, "davd does not answer", http.StatusServiceUnavailable)
-			return
-		}
-		w.Header().Set("Content-Type", "text/plain; charset=utf-8")
-		io.WriteString(w, "ok\n")
-	})
 }
 
 // announce logs where the server listens.

@@ -9,7 +9,6 @@ import (
 	"errors"
 	"fmt"
 	"net/http"
-	"net/netip"
 	"strings"
 	"unicode"
 	"unicode/utf8"
@@ -60,15 +59,6 @@ func checkRealm(realm string) error {
 		return fmt.Errorf("realm %q is not UTF-8 or has a control character", realm)
 	}
 	return nil
-}
-
-// peer returns the address of the client at the other end of the connection. It is not valid if there is none.
-func peer(r *http.Request) netip.Addr {
-	ap, err := netip.ParseAddrPort(r.RemoteAddr)
-	if err != nil {
-		return netip.Addr{}
-	}
-	return ap.Addr().Unmap().WithZone("")
 }
 
 // fail answers a request with an error status.

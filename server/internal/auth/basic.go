@@ -13,6 +13,8 @@ import (
 	"time"
 
 	"golang.org/x/crypto/bcrypt"
+
+	"davserve/internal/caller"
 )
 
 // maxCredentials is how many bytes the value of Authorization may have.
@@ -46,6 +48,14 @@ var (
 //     waits or is 429 in the same way.
 //   - Requests that share a check are delayed as the first of them, and a failure counts for the address of the
 //     first.
+//
+// What waits for a processor is served in turn, and not in the order of its coming:
+//
+//   - First come addresses that are not hot. These have one processor for themselves if there are two or more.
+//   - Of these, first comes the one whose network (24 bits of IPv4, or 48 of IPv6) and whose name together had the
+//     fewest checks lately, and of two that had as many, the newest. It makes no difference whether there is a user of
+//     the name.
+//   - At most 1024 requests wait, each for at most 30 seconds. Others are 429 with Retry-After.
 type Basic struct {
 	users     *Users
 	challenge string
@@ -54,7 +64,8 @@ type Basic struct {
 	cache     *cache
 	delays    *delays
 	flights   flights
-	slots     chan struct{} // has an item for each check that is running
+	turns     *turns
+	address   func(*http.Request) netip.Addr
 	compare   func(hash, password []byte) error
 }
 
@@ -88,10 +99,15 @@ func newBasic(users *Users, realm string, maxDelayed int, clock clock) (*Basic, 
 		cache:     newCache(clock.now),
 		delays:    newDelays(maxDelayed, clock.now),
 		flights:   flights{calls: make(map[key]*call)},
-		slots:     make(chan struct{}, processors),
+		turns:     newTurns(processors, clock.now),
+		address:   func(r *http.Request) netip.Addr { return caller.Parse(r.RemoteAddr) },
 		compare:   bcrypt.CompareHashAndPassword,
 	}, nil
 }
+
+// SetAddress has a function say which address a request comes from, such as the one that a proxy names. Without it, it is
+// the one at the other end of the connection.
+func (b *Basic) SetAddress(address func(*http.Request) netip.Addr) { b.address = address }
 
 // Handler returns a handler that passes the requests of users to next, without their Authorization. Others are 401, or
 //
@@ -143,7 +159,7 @@ func (b *Basic) authenticate(r *http.Request) (string, error) {
 	if !ok {
 		return "", errNobody
 	}
-	ok, err := b.verify(r.Context(), network(peer(r)), name, password)
+	ok, err := b.verify(r.Context(), caller.Network(b.address(r)), name, password)
 	if err != nil {
 		return "", err
 	}
@@ -172,10 +188,10 @@ func (b *Basic) verify(ctx context.Context, address netip.Prefix, name, password
 		if b.cache.has(k) { // another call ended since
 			return true, nil
 		}
-		if err := b.turn(ctx, address, wait); err != nil {
+		if err := b.turn(ctx, attempt{address, named}, wait); err != nil {
 			return false, err
 		}
-		defer b.release()
+		defer b.turns.release()
 		err := b.compare([]byte(hash), []byte(password))
 		if err != nil || !known {
 			b.delays.failed(address)
@@ -186,46 +202,38 @@ func (b *Basic) verify(ctx context.Context, address netip.Prefix, name, password
 	})
 }
 
+// An attempt is who tries a password, and of which name.
+type attempt struct {
+	address netip.Prefix
+	name    key
+}
+
 // turn waits for the delay of an attempt and for a processor. wait is the delay that its address had when it came.
-func (b *Basic) turn(ctx context.Context, address netip.Prefix, wait time.Duration) error {
+func (b *Basic) turn(ctx context.Context, by attempt, wait time.Duration) error {
 	if wait > 0 {
-		return b.acquireAfter(ctx, wait)
+		return b.acquireAfter(ctx, by, wait)
 	}
-	if err := b.acquire(ctx); err != nil {
+	if err := b.turns.acquire(ctx, by.address, by.name, false); err != nil {
 		return err
 	}
-	wait, leave, err := b.delays.enter(address)
+	wait, leave, err := b.delays.enter(by.address)
 	if err != nil {
-		b.release()
+		b.turns.release()
 		return err
 	}
 	defer leave()
 	if wait == 0 {
 		return nil
 	}
-	b.release()
-	return b.acquireAfter(ctx, wait)
+	b.turns.release()
+	return b.acquireAfter(ctx, by, wait)
 }
 
-func (b *Basic) acquireAfter(ctx context.Context, wait time.Duration) error {
+func (b *Basic) acquireAfter(ctx context.Context, by attempt, wait time.Duration) error {
 	if err := b.clock.sleep(ctx, wait); err != nil {
 		return err
 	}
-	return b.acquire(ctx)
-}
-
-// acquire waits for a processor. release gives it back.
-func (b *Basic) acquire(ctx context.Context) error {
-	select {
-	case b.slots <- struct{}{}:
-		return nil
-	case <-ctx.Done():
-		return ctx.Err()
-	}
-}
-
-func (b *Basic) release() {
-	<-b.slots
+	return b.turns.acquire(ctx, by.address, by.name, true)
 }
 
 // parseBasic returns the name and the password in the value of Authorization. Both must be UTF-8 without control

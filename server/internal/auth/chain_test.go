@@ -14,8 +14,10 @@ import (
 
 	"davserve/internal/accesslog"
 	"davserve/internal/auth"
+	"davserve/internal/caller"
 	"davserve/internal/cors"
 	"davserve/internal/limit"
+	"davserve/internal/share"
 
 	"golang.org/x/crypto/bcrypt"
 )
@@ -51,7 +53,8 @@ func chain(t *testing.T, logged io.Writer) http.Handler {
 	mux := http.NewServeMux()
 	mux.HandleFunc("/-/health", func(w http.ResponseWriter, r *http.Request) { io.WriteString(w, "ok") })
 	mux.Handle("/", withCORS)
-	return limit.Requests(8, accesslog.New(log.New(logged, "", 0), mux))
+	keyOf := func(r *http.Request) share.Key { return caller.Key(caller.Parse(r.RemoteAddr)) }
+	return limit.Requests(share.NewPool(8, 50, 8), 0, keyOf, accesslog.New(log.New(logged, "", 0), mux))
 }
 
 func TestChain(t *testing.T) {

@@ -143,16 +143,3 @@ func delayAfter(failures int) time.Duration {
 	}
 	return delay
 }
-
-// network returns the address whose failures count together: that of IPv4, or the /64 of IPv6, which one client has.
-func network(address netip.Addr) netip.Prefix {
-	bits := address.BitLen()
-	if address.Is6() {
-		bits = 64
-	}
-	prefix, err := address.Prefix(bits)
-	if err != nil {
-		return netip.Prefix{}
-	}
-	return prefix
-}

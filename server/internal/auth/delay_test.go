@@ -9,6 +9,8 @@ import (
 	"reflect"
 	"testing"
 	"time"
+
+	"davserve/internal/caller"
 )
 
 const (
@@ -98,7 +100,7 @@ func TestDelayBound(t *testing.T) {
 	clock := newFakeClock()
 	d := newDelays(64, clock.now)
 	address := func(i int) netip.Prefix {
-		return network(netip.AddrFrom4([4]byte{10, 0, byte(i >> 8), byte(i)}))
+		return caller.Network(netip.AddrFrom4([4]byte{10, 0, byte(i >> 8), byte(i)}))
 	}
 	hot := func(i int) bool {
 		wait, leave, err := d.enter(address(i))
@@ -132,7 +134,7 @@ func TestDelayBound(t *testing.T) {
 func TestDelayForgottenWhileWaiting(t *testing.T) {
 	clock := newFakeClock()
 	d := newDelays(8, clock.now)
-	address := network(netip.MustParseAddr("192.0.2.1"))
+	address := caller.Network(netip.MustParseAddr("192.0.2.1"))
 	d.failed(address)
 	_, leave, err := d.enter(address)
 	if err != nil {
@@ -267,9 +269,7 @@ func TestRetryAfter(t *testing.T) {
 func TestBurst(t *testing.T) {
 	const guesses = 40
 	f := newFixture(t, 8, entry("alice", hashOfUxU))
-	for i := 1; i < cap(f.slots); i++ {
-		f.slots <- struct{}{} // all processors but one
-	}
+	f.turns = newTurns(1, f.clock.now)
 	first, begun := make(chan struct{}), make(chan struct{}, guesses)
 	check := f.compare
 	f.compare = func(hash, password []byte) error {

@@ -25,6 +25,7 @@ func TestParallel(t *testing.T) {
 	}
 	for _, test := range tests {
 		f := newFixture(t, 64, entry("alice", hashOfUxU))
+		processors := f.turns.free
 		check, begun := f.compare, make(chan struct{}, all)
 		joined := make(chan struct{})
 		f.compare = func(hash, password []byte) error {
@@ -48,8 +49,8 @@ func TestParallel(t *testing.T) {
 		if n := f.checks(); n != 1 {
 			t.Errorf("%q, %q: %d checks", test.name, test.password, n)
 		}
-		if len(f.flights.calls) != 0 || len(f.slots) != 0 {
-			t.Errorf("%q, %q: %d calls, %d processors", test.name, test.password, len(f.flights.calls), len(f.slots))
+		if len(f.flights.calls) != 0 || f.turns.free != processors {
+			t.Errorf("%q, %q: %d calls, %d processors", test.name, test.password, len(f.flights.calls), f.turns.free)
 		}
 	}
 }
@@ -131,8 +132,9 @@ func TestFirstLeaves(t *testing.T) {
 // Requests that end while they wait for a processor cost no check, and are no failures.
 func TestAllLeave(t *testing.T) {
 	f := newFixture(t, 64, entry("alice", hashOfUxU))
-	for i := 0; i < cap(f.slots); i++ {
-		f.slots <- struct{}{}
+	f.turns = newTurns(1, f.clock.now)
+	if err := f.turns.acquire(context.Background(), of("192.0.2.1"), key{}, false); err != nil {
+		t.Fatal(err)
 	}
 	ctx, cancel := context.WithCancel(context.Background())
 	first, second := f.start(ctx, home, "alice", "U*U"), f.start(ctx, home, "alice", "wrong")
@@ -143,9 +145,7 @@ func TestAllLeave(t *testing.T) {
 			t.Errorf("status %d", status)
 		}
 	}
-	for i := 0; i < cap(f.slots); i++ {
-		<-f.slots
-	}
+	f.turns.release()
 	if n := f.checks(); n != 0 || f.delays.order.Len() != 0 {
 		t.Errorf("%d checks, %d addresses failed", n, f.delays.order.Len())
 	}
@@ -230,8 +230,8 @@ type result struct {
 	err error
 }
 
-// caller calls do in the background, with a function that waits for its context or for end.
-func caller(ctx context.Context, f *flights, k key, begun chan<- context.Context, end <-chan bool) <-chan result {
+// ask calls do in the background, with a function that waits for its context or for end.
+func ask(ctx context.Context, f *flights, k key, begun chan<- context.Context, end <-chan bool) <-chan result {
 	got := make(chan result, 1)
 	go func() {
 		ok, err := f.do(ctx, k, func(ctx context.Context) (bool, error) {
@@ -263,7 +263,7 @@ func TestFlightContext(t *testing.T) {
 		ctx, cancel := context.WithCancel(context.Background())
 		defer cancel()
 		cancels = append(cancels, cancel)
-		got = append(got, caller(ctx, &f, key{}, begun, end))
+		got = append(got, ask(ctx, &f, key{}, begun, end))
 		until(t, "the callers wait", func() bool { return f.waitingFor(key{}) == i })
 	}
 	shared := <-begun
@@ -295,19 +295,19 @@ func TestFlightAfterLeave(t *testing.T) {
 	begun := make(chan context.Context, 3)
 	ctx, cancel := context.WithCancel(context.Background())
 	oldEnd, newEnd := make(chan bool), make(chan bool)
-	old := caller(ctx, &f, key{}, begun, oldEnd)
+	old := ask(ctx, &f, key{}, begun, oldEnd)
 	<-begun
 	abandoned := f.calls[key{}]
 	cancel()
 	<-old
 
-	first := caller(context.Background(), &f, key{}, begun, newEnd)
+	first := ask(context.Background(), &f, key{}, begun, newEnd)
 	if fresh := <-begun; fresh.Err() != nil {
 		t.Error("a new caller got a context that had ended")
 	}
 	oldEnd <- true
 	<-abandoned.done
-	second := caller(context.Background(), &f, key{}, begun, newEnd)
+	second := ask(context.Background(), &f, key{}, begun, newEnd)
 	until(t, "the second caller joins", func() bool { return f.waitingFor(key{}) == 2 })
 	newEnd <- true
 	for _, got := range []<-chan result{first, second} {

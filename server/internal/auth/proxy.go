@@ -6,13 +6,15 @@ import (
 	"net/http"
 	"net/netip"
 	"strings"
+
+	"davserve/internal/caller"
 )
 
 // Proxy authenticates requests by a header field that a proxy sets. It is as safe as the proxy: nobody else may connect
 // from its address, and it must remove the header field from the requests that it gets.
 type Proxy struct {
 	field     string
-	from      []netip.Prefix
+	from      caller.Proxies
 	challenge string
 }
 
@@ -36,7 +38,7 @@ func NewProxy(field string, from []netip.Prefix, realm string) (*Proxy, error) {
 	// that a client could try.
 	return &Proxy{
 		field:     http.CanonicalHeaderKey(field),
-		from:      append([]netip.Prefix(nil), from...),
+		from:      append(caller.Proxies(nil), from...),
 		challenge: "External realm=" + quoted(realm),
 	}, nil
 }
@@ -50,7 +52,7 @@ func (p *Proxy) Handler(next http.Handler) http.Handler {
 	return http.HandlerFunc(func(w http.ResponseWriter, r *http.Request) {
 		values := r.Header[p.field]
 		switch {
-		case !p.trusts(peer(r)):
+		case !p.from.Has(caller.Parse(r.RemoteAddr)):
 			fail(w, http.StatusForbidden)
 		case len(values) > 1:
 			fail(w, http.StatusBadRequest)
@@ -63,16 +65,6 @@ func (p *Proxy) Handler(next http.Handler) http.Handler {
 			next.ServeHTTP(w, r.WithContext(WithUser(r.Context(), values[0])))
 		}
 	})
-}
-
-// trusts reports whether an address is that of a proxy.
-func (p *Proxy) trusts(address netip.Addr) bool {
-	for _, prefix := range p.from {
-		if prefix.Contains(address) {
-			return true
-		}
-	}
-	return false
 }
 
 // isToken reports whether s is a token (RFC 9110, section 5.6.2).

@@ -217,6 +217,19 @@ func (e *Engine) Do(ctx context.Context, f frame.Frame) (frame.Reply, error) {
 	return e.do(ctx, newCall(f))
 }
 
+// DoSized does what Do does, and calls a function with the length of the reply before it decodes it. An error of the
+// function is that of DoSized.
+func (e *Engine) DoSized(ctx context.Context, f frame.Frame, sized func(bytes int) error) (frame.Reply, error) {
+	replies, err := e.exchange(ctx, newCall(f))
+	if err != nil {
+		return nil, err
+	}
+	if err := sized(len(replies[0])); err != nil {
+		return nil, err
+	}
+	return decode(replies[0])
+}
+
 func (e *Engine) do(ctx context.Context, c *call) (frame.Reply, error) {
 	replies, err := e.exchange(ctx, c)
 	if err != nil {

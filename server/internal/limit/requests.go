@@ -1,44 +1,34 @@
 package limit
 
 import (
-	"context"
 	"net/http"
 	"time"
+
+	"davserve/internal/share"
 )
 
-// Requests returns a handler that passes at most n requests at once to next, n at least 1. A further request waits for
-// a second. If it still has no place then, the response is 503 with Retry-After.
-func Requests(n int, next http.Handler) http.Handler {
-	return requests(n, time.Second, next)
-}
-
-func requests(n int, patience time.Duration, next http.Handler) http.Handler {
-	slots := make(chan struct{}, n)
+// Requests returns a handler that passes a request to next when its client has a unit of the pool. A request waits for
+// that as long as the patience is. If it still has none then, the response is 503 with Retry-After.
+func Requests(pool *share.Pool, patience time.Duration, keyOf func(*http.Request) share.Key, next http.Handler) http.Handler {
 	return http.HandlerFunc(func(w http.ResponseWriter, r *http.Request) {
-		if !acquire(r.Context(), slots, patience) {
-			w.Header().Set("Retry-After", "1")
-			http.Error(w, "too many requests at once", http.StatusServiceUnavailable)
+		lease, err := pool.Acquire(r.Context(), keyOf(r), 1, patience)
+		if err != nil {
+			Busy(w, r)
 			return
 		}
-		defer func() { <-slots }()
+		defer lease.Release()
 		next.ServeHTTP(w, r)
 	})
 }
 
-// acquire takes a slot, and reports whether it got one in time.
-func acquire(ctx context.Context, slots chan struct{}, patience time.Duration) bool {
-	select {
-	case slots <- struct{}{}:
-		return true
-	default:
+// Busy answers a request for which there is no room now. With HTTP/2 the response has no body: nothing of it has to wait
+// until its client makes room for it.
+func Busy(w http.ResponseWriter, r *http.Request) {
+	w.Header().Set("Retry-After", "1")
+	if r.ProtoMajor == 2 {
+		w.Header().Set("Content-Length", "0")
+		w.WriteHeader(http.StatusServiceUnavailable)
+		return
 	}
-	timer := time.NewTimer(patience)
-	defer timer.Stop()
-	select {
-	case slots <- struct{}{}:
-		return true
-	case <-timer.C:
-	case <-ctx.Done():
-	}
-	return false
+	http.Error(w, "too many requests at once", http.StatusServiceUnavailable)
 }

@@ -8,6 +8,8 @@ import (
 	"sync/atomic"
 	"testing"
 	"time"
+
+	"davserve/internal/share"
 )
 
 // A gate is a handler whose requests wait until it opens.
@@ -35,22 +37,25 @@ func (g *gate) ServeHTTP(w http.ResponseWriter, r *http.Request) {
 	<-g.open
 }
 
-func get(ctx context.Context, h http.Handler) *httptest.ResponseRecorder {
+// byHost has a request belong to the client that its host names.
+func byHost(r *http.Request) share.Key { return share.Key(r.Host) }
+
+func get(ctx context.Context, h http.Handler, client string) *httptest.ResponseRecorder {
 	w := httptest.NewRecorder()
-	h.ServeHTTP(w, httptest.NewRequest("GET", "/", nil).WithContext(ctx))
+	h.ServeHTTP(w, httptest.NewRequest("GET", "http://"+client+"/", nil).WithContext(ctx))
 	return w
 }
 
 func TestRequests(t *testing.T) {
 	const most, all = 3, 30
 	g := newGate()
-	h := requests(most, time.Minute, g)
+	h := Requests(share.NewPool(most, 100, all), time.Minute, byHost, g)
 	var wg sync.WaitGroup
 	for i := 0; i < all; i++ {
 		wg.Add(1)
 		go func() {
 			defer wg.Done()
-			if w := get(context.Background(), h); w.Code != http.StatusOK {
+			if w := get(context.Background(), h, "a"); w.Code != http.StatusOK {
 				t.Errorf("status %d", w.Code)
 			}
 		}()
@@ -70,43 +75,81 @@ func TestRequests(t *testing.T) {
 	}
 }
 
-func TestRequestsBeyond(t *testing.T) {
+// A client has its share of the requests, which do not end. Another one is served.
+func TestRequestsOfTwoClients(t *testing.T) {
 	g := newGate()
-	h := Requests(1, g)
+	h := Requests(share.NewPool(4, 50, 10), 50*time.Millisecond, byHost, g)
+	statuses := make(chan int, 5)
+	ask := func(client string) { statuses <- get(context.Background(), h, client).Code }
+	for i := 0; i < 3; i++ {
+		go ask("greedy")
+	}
+	if status := <-statuses; status != http.StatusServiceUnavailable {
+		t.Errorf("a request beyond the share of its client: status %d", status)
+	}
+	go ask("modest")
+	for i := 0; i < 3; i++ {
+		select {
+		case <-g.entered:
+		case <-time.After(5 * time.Second):
+			t.Fatalf("only %d requests are served", i)
+		}
+	}
+	close(g.open)
+	for i := 0; i < 3; i++ {
+		if status := <-statuses; status != http.StatusOK {
+			t.Errorf("status %d", status)
+		}
+	}
+}
+
+func TestRequestsBeyond(t *testing.T) {
+	const patience = 200 * time.Millisecond
+	g := newGate()
+	h := Requests(share.NewPool(1, 50, 10), patience, byHost, g)
 	done := make(chan struct{})
 	go func() {
 		defer close(done)
-		get(context.Background(), h)
+		get(context.Background(), h, "a")
 	}()
 	<-g.entered
 
 	start := time.Now()
-	w := get(context.Background(), h)
-	if d := time.Since(start); d < time.Second || d > 10*time.Second {
+	w := get(context.Background(), h, "a")
+	if d := time.Since(start); d < patience || d > 10*time.Second {
 		t.Errorf("the response came after %v", d)
 	}
-	if w.Code != http.StatusServiceUnavailable || w.Header().Get("Retry-After") != "1" {
+	if w.Code != http.StatusServiceUnavailable || w.Header().Get("Retry-After") != "1" || w.Body.Len() == 0 {
 		t.Errorf("status %d, Retry-After %q", w.Code, w.Header().Get("Retry-After"))
 	}
 
 	ctx, cancel := context.WithCancel(context.Background())
 	cancel()
 	start = time.Now()
-	if w := get(ctx, h); w.Code != http.StatusServiceUnavailable || time.Since(start) > time.Second {
+	if w := get(ctx, h, "a"); w.Code != http.StatusServiceUnavailable || time.Since(start) > patience {
 		t.Errorf("status %d after %v of a request that has ended", w.Code, time.Since(start))
 	}
 
 	close(g.open)
 	<-done
-	if w := get(context.Background(), h); w.Code != http.StatusOK {
+	if w := get(context.Background(), h, "a"); w.Code != http.StatusOK {
 		t.Errorf("status %d after the place was free", w.Code)
 	}
 }
 
+func TestBusyOverHTTP2HasNoBody(t *testing.T) {
+	r := httptest.NewRequest("GET", "/", nil)
+	r.ProtoMajor = 2
+	w := httptest.NewRecorder()
+	Busy(w, r)
+	if w.Code != http.StatusServiceUnavailable || w.Body.Len() != 0 || w.Header().Get("Content-Length") != "0" {
+		t.Errorf("status %d, %d bytes", w.Code, w.Body.Len())
+	}
+}
+
 func TestRequestsPanic(t *testing.T) {
-	h := requests(1, 10*time.Millisecond, http.HandlerFunc(func(w http.ResponseWriter, r *http.Request) {
-		panic(http.ErrAbortHandler)
-	}))
+	h := Requests(share.NewPool(1, 50, 1), 10*time.Millisecond, byHost, http.HandlerFunc(
+		func(w http.ResponseWriter, r *http.Request) { panic(http.ErrAbortHandler) }))
 	for i := 0; i < 2; i++ {
 		func() {
 			defer func() {
@@ -114,7 +157,7 @@ func TestRequestsPanic(t *testing.T) {
 					t.Errorf("request %d: %v", i, v)
 				}
 			}()
-			get(context.Background(), h)
+			get(context.Background(), h, "a")
 		}()
 	}
 }

@@ -43,29 +43,30 @@ func closedWithin(t *testing.T, c net.Conn, d time.Duration) bool {
 }
 
 func TestWatch(t *testing.T) {
-	const most = 200 * time.Millisecond
+	const stall = 200 * time.Millisecond
 	tests := []struct {
 		name   string
 		use    func(w *Watchdog)
 		closed bool
 	}{
-		{"no progress", func(w *Watchdog) {}, true},
-		{"stopped", func(w *Watchdog) { w.Stop() }, false},
-		{"stopped twice", func(w *Watchdog) { w.Stop(); w.Stop() }, false},
-		{"progress after the stop", func(w *Watchdog) { w.Stop(); w.Progress() }, false},
-		{"no more progress", func(w *Watchdog) { w.Progress() }, true},
+		{"nothing comes", func(w *Watchdog) { w.Begin() }, true},
+		{"the server does not wait", func(w *Watchdog) {}, false},
+		{"the server does not wait any more", func(w *Watchdog) { w.Begin(); w.End(0) }, false},
+		{"two ends", func(w *Watchdog) { w.Begin(); w.End(1); w.End(1) }, false},
+		{"an end before", func(w *Watchdog) { w.End(1) }, false},
+		{"nothing more comes", func(w *Watchdog) { w.Begin(); w.End(1000); w.Begin() }, true},
 	}
 	for _, test := range tests {
 		test := test
 		t.Run(test.name, func(t *testing.T) {
 			t.Parallel()
 			client, server := pair(t)
-			w := Watch(ConnContext(context.Background(), server), most)
-			defer w.Stop()
+			w := Watch(ConnContext(context.Background(), server), Pace{Stall: stall})
+			defer w.End(0)
 			test.use(w)
 			within := 10 * time.Second
 			if !test.closed {
-				within = 3 * most
+				within = 3 * stall
 			}
 			if closedWithin(t, client, within) != test.closed {
 				t.Errorf("closed: %v", !test.closed)
@@ -74,40 +75,63 @@ func TestWatch(t *testing.T) {
 	}
 }
 
-func TestWatchProgress(t *testing.T) {
-	const most = time.Second
-	client, server := pair(t)
-	w := Watch(ConnContext(context.Background(), server), most)
-	start := time.Now()
-	for time.Since(start) < 2*most {
-		time.Sleep(most / 50)
-		w.Progress()
+// Each step takes so long, and so many bytes come in it.
+func TestWatchPace(t *testing.T) {
+	const stall, step = 400 * time.Millisecond, 40 * time.Millisecond
+	tests := []struct {
+		name   string
+		least  int64
+		bytes  int // of each step
+		steps  int
+		closed bool
+	}{
+		{"single bytes, and any do", 0, 1, 30, false},
+		{"single bytes", 1000, 1, 30, true},
+		{"bytes at the pace", 1000, 100, 30, false},
+		{"many bytes once are no more than the time", 1000, 1 << 30, 1, false},
 	}
-	if closedWithin(t, client, time.Millisecond) {
-		t.Error("closed in spite of progress")
-	}
-	last := time.Now()
-	if !closedWithin(t, client, 10*time.Second) {
-		t.Fatal("not closed without progress")
-	}
-	if d := time.Since(last); d < most/2 {
-		t.Errorf("closed %v after progress", d)
+	for _, test := range tests {
+		test := test
+		t.Run(test.name, func(t *testing.T) {
+			t.Parallel()
+			client, server := pair(t)
+			w := Watch(ConnContext(context.Background(), server), Pace{Stall: stall, Least: test.least})
+			for i := 0; i < test.steps; i++ {
+				w.Begin()
+				time.Sleep(step)
+				w.End(test.bytes)
+			}
+			if closedWithin(t, client, time.Millisecond) != test.closed {
+				t.Fatalf("closed: %v", !test.closed)
+			}
+			if test.closed {
+				return
+			}
+			start := time.Now()
+			w.Begin()
+			if !closedWithin(t, client, 10*time.Second) {
+				t.Fatal("not closed when nothing more comes")
+			}
+			if d := time.Since(start); d > 3*stall {
+				t.Errorf("closed after %v", d)
+			}
+		})
 	}
 }
 
 func TestWatchNothing(t *testing.T) {
 	_, server := pair(t)
 	for _, w := range []*Watchdog{
-		Watch(context.Background(), time.Nanosecond),
-		Watch(ConnContext(context.Background(), nil), time.Nanosecond),
-		Watch(ConnContext(context.Background(), server), 0),
-		Watch(ConnContext(context.Background(), server), -1),
+		Watch(context.Background(), Pace{Stall: time.Nanosecond}),
+		Watch(ConnContext(context.Background(), nil), Pace{Stall: time.Nanosecond}),
+		Watch(ConnContext(context.Background(), server), Pace{}),
+		Watch(ConnContext(context.Background(), server), Pace{Stall: -1, Least: 1}),
 	} {
-		w.Progress()
+		w.Begin()
 		if w.timer != nil {
 			t.Error("a watchdog has nothing to watch and a timer")
 		}
-		w.Stop()
+		w.End(1)
 	}
 }
 
@@ -115,23 +139,23 @@ func TestWatchNothing(t *testing.T) {
 func TestWatchRace(t *testing.T) {
 	for i := 0; i < 50; i++ {
 		_, server := pair(t)
-		w := Watch(ConnContext(context.Background(), server), time.Millisecond)
+		w := Watch(ConnContext(context.Background(), server), Pace{Stall: time.Millisecond, Least: 1000})
 		var wg sync.WaitGroup
 		for j := 0; j < 4; j++ {
 			wg.Add(1)
 			go func() {
 				defer wg.Done()
 				for start := time.Now(); time.Since(start) < 2*time.Millisecond; {
-					w.Progress()
+					w.Begin()
+					w.End(1)
 				}
-				w.Stop()
 			}()
 		}
 		wg.Wait()
 	}
 }
 
-// abort reaches the TCP connection below wrappers.
+// Abort reaches the TCP connection below wrappers.
 func TestAbort(t *testing.T) {
 	client, server := pair(t)
 	slots := make(chan struct{}, 1)
@@ -140,7 +164,7 @@ func TestAbort(t *testing.T) {
 	if _, err := server.Write(bytes.Repeat([]byte("x"), 1000)); err != nil {
 		t.Fatal(err)
 	}
-	abort(wrapped)
+	Abort(wrapped)
 	if len(slots) != 0 {
 		t.Error("the connection kept its place")
 	}
@@ -159,22 +183,23 @@ type stall struct {
 }
 
 func (s *stall) ServeHTTP(w http.ResponseWriter, r *http.Request) {
-	dog := Watch(r.Context(), s.most)
-	defer dog.Stop()
+	dog := Watch(r.Context(), Pace{Stall: s.most})
 	buffer := make([]byte, 32<<10)
 	for {
+		var n int
 		var err error
+		dog.Begin()
 		if r.Method == "PUT" {
-			_, err = r.Body.Read(buffer)
+			n, err = r.Body.Read(buffer)
 		} else {
-			_, err = w.Write(buffer)
+			n, err = w.Write(buffer)
 		}
+		dog.End(n)
 		if err != nil {
 			s.isH2 = r.ProtoMajor == 2
 			s.ended <- err
 			return
 		}
-		dog.Progress()
 	}
 }
 
@@ -261,7 +286,7 @@ func request(t *testing.T, server *httptest.Server, method string) (end func()) 
 	}
 }
 
-// abort does not wait until a client takes the alert that TLS sends at the end.
+// Abort does not wait until a client takes the alert that TLS sends at the end.
 func TestAbortTLS(t *testing.T) {
 	client, accepted := pair(t)
 	slots := make(chan struct{}, 1)
@@ -283,12 +308,12 @@ func TestAbortTLS(t *testing.T) {
 	done := make(chan struct{})
 	go func() {
 		defer close(done)
-		abort(server)
+		Abort(server)
 	}()
 	select {
 	case <-done:
 	case <-time.After(3 * time.Second):
-		t.Error("abort waits")
+		t.Error("Abort waits")
 		accepted.Close()
 		<-done
 	}
