@@ -176,8 +176,13 @@ impl<'a> Session<'a> {
         ensures { IfOk result (λ run. OnOk run (AreRun (shared_by self.old) requests.now (shared_by self.new))) }
     {
         let prefix = String::from_str(alloc, self.prefix)?;
-        let (replies, store, locks) =
-            run_over(&mut self.store, &mut self.locks, self.profile, prefix, requests);
+        let (replies, store, locks) = run_over(
+            &mut self.store,
+            &mut self.locks,
+            self.profile,
+            prefix,
+            requests,
+        );
         give_back(store, locks);
         Ok(replies)
     }
