@@ -20,10 +20,14 @@ use Rattle.dav_folder.proofs.reading.read_store.Goals as goal
 abbrev with_part : Option ℕ → Memory → Memory
 with_part part memory = record memory { tag_part = part }
 
+-- a store that marks directories
+abbrev with_marks : Memory → Memory
+with_marks memory = record memory { marks = true }
+
 pub returns-clause-limit : goal.returns-clause-limit
 returns-clause-limit g c = λ image tables are.
     let values = (c.in-Ok.ensures.loaded image tables are).values in
-    ap (λ (m : Memory). m.limit) (c.set_tag_part.ensures.memory ∙ ap (with_part c.args.tag_part) (c.in-Ok-stored.ensures.memory image.tree values))
+    ap (λ (m : Memory). m.limit) (c.set_marks_parents.ensures.memory ∙ ap with_marks (c.set_tag_part.ensures.memory ∙ ap (with_part c.args.tag_part) (c.in-Ok-stored.ensures.memory image.tree values)))
 
 pub returns-clause-found : goal.returns-clause-found
 returns-clause-found g c = λ image tables are.
@@ -32,11 +36,11 @@ returns-clause-found g c = λ image tables are.
     record {
       knows = c.in-Ok.ensures.known image tables are;
       sound = are.whole.sound;
-      entries = ap (λ (k : Kept). k.tree) c.set_tag_part.ensures.entries ∙ store.entries image.tree loaded.values;
+      entries = ap (λ (k : Kept). k.tree) (c.set_marks_parents.ensures.entries ∙ c.set_tag_part.ensures.entries) ∙ store.entries image.tree loaded.values;
       resources = c.show_sound.ensures;
-      saved = subst IsSaved (sym c.set_tag_part.ensures.entries) store.saved;
+      saved = subst IsSaved (sym (c.set_marks_parents.ensures.entries ∙ c.set_tag_part.ensures.entries)) store.saved;
       locks_are = loaded.locks;
-      counter = ap (λ (m : Memory). m.version) (c.set_tag_part.ensures.memory ∙ ap (with_part c.args.tag_part) (store.memory image.tree loaded.values)) ∙ ap (λ (n : Numbers). n.counter) loaded.numbers;
+      counter = ap (λ (m : Memory). m.version) (c.set_marks_parents.ensures.memory ∙ ap with_marks (c.set_tag_part.ensures.memory ∙ ap (with_part c.args.tag_part) (store.memory image.tree loaded.values))) ∙ ap (λ (n : Numbers). n.counter) loaded.numbers;
       time = ap (λ (n : Numbers). n.time) loaded.numbers;
       batch = ap (λ (n : Numbers). n.batch) loaded.numbers;
       key = ap (λ (n : Numbers). n.key) loaded.numbers;
@@ -50,7 +54,7 @@ returns-clause-bytes g c = λ image tables are within.
     let below = values_below c.args.rows image tables are loaded.values.items values in
     let most = c.in-Ok.ensures.end.least are.whole.end below in
     let same = c.in-Ok-open.ensures.bytes (omega (arith, most, within)) in
-    ap (λ (m : Memory). m.resources) (c.set_tag_part.ensures.memory ∙ ap (with_part c.args.tag_part) (store.memory image.tree values))
+    ap (λ (m : Memory). m.resources) (c.set_marks_parents.ensures.memory ∙ ap with_marks (c.set_tag_part.ensures.memory ∙ ap (with_part c.args.tag_part) (store.memory image.tree values)))
     ∙ same-resources (bytes_of (g.D.Disk.seen c.args.disk)) (bytes_in c.in-Ok-open.medium) (is_below loaded.end) (is_below loaded.end) (λ body below. below)
     same image.tree (tree_below loaded.values.items image.tree loaded.end values c.in-Ok.ensures.end.reached)
 
