@@ -4,10 +4,9 @@ pub returns-clause-run : goal.returns-clause-run
 returns-clause-run g c ends =
     let served = c.run_script.ensures.run ends in
     record {
-      text = served.text;
-      whole = served.whole;
+      profile = served.profile;
       script = served.script.blocks.items;
-      given = served.given;
+      read = record { text = served.read.text; whole = served.read.whole; chosen = served.read.chosen; given = served.read.given };
       last = served.last;
       done = served.done;
     }
