@@ -56,6 +56,9 @@ func New(ctx context.Context, options Options) (*Handler, error) {
 		Memory:  options.Memory,
 		Rights:  options.Rights,
 		Log:     options.Log,
+
+		MaxClockChange: options.MaxClockChange,
+		Machine:        options.machine,
 	})
 	if err != nil {
 		return nil, err

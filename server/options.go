@@ -10,6 +10,8 @@ import (
 	"path/filepath"
 	"strings"
 	"time"
+
+	"davserve/internal/clock"
 )
 
 // Options say how a Handler serves. The zero value of each field but Davd is a usable default.
@@ -66,8 +68,13 @@ type Options struct {
 	// LeastRate is how many bytes a second a client must send of a body, on average, once it has let the server wait for
 	// StallTimeout in all. 0: it must send something within each StallTimeout.
 	LeastRate int64
-	// Log gets a line when davd ends or a response breaks off. Nil: the standard logger.
+	// MaxClockChange is how far the clock of the machine may be from the last time of a folder: New fails if it is further
+	// away. A clock that jumps further while the handler serves is not followed. 0: ten years.
+	MaxClockChange time.Duration
+	// Log gets a line when davd ends, a response breaks off, or the clock of the machine jumps. Nil: the standard logger.
 	Log *log.Logger
+
+	machine func() clock.Reading // the clocks of the machine; nil: those of this one
 }
 
 const (
@@ -108,7 +115,7 @@ func (o Options) complete() (Options, error) {
 	if o.ClientShare < 0 || o.ClientShare > 100 {
 		return o, fmt.Errorf("the share of a client is not 1 to 100 percent: %d", o.ClientShare)
 	}
-	if o.MaxLock < 0 || o.StallTimeout < 0 {
+	if o.MaxLock < 0 || o.StallTimeout < 0 || o.MaxClockChange < 0 {
 		return o, errors.New("a time is negative")
 	}
 	setDefault(&o.MaxBody, defaultMaxBody)
@@ -118,6 +125,7 @@ func (o Options) complete() (Options, error) {
 	setDefault(&o.MaxUploads, o.defaultUploads())
 	setDefault(&o.MaxLock, defaultMaxLock)
 	setDefault(&o.StallTimeout, defaultStallTimeout)
+	setDefault(&o.MaxClockChange, clock.MaxChange)
 	if o.Log == nil {
 		o.Log = log.Default()
 	}

@@ -13,6 +13,7 @@ import (
 	"time"
 
 	"davserve"
+	"davserve/internal/clock"
 	"davserve/internal/size"
 )
 
@@ -182,6 +183,9 @@ func (c *config) addUsers(flags *flag.FlagSet) {
 	flags.BoolVar(&c.anonymous, "anonymous", false, "allow to serve everyone on a network")
 }
 
+// clockUsage is the help of -max-clock-change.
+const clockUsage = "greatest `time` from the last change in the folder to the clock of the machine"
+
 func (c *config) addLimits(flags *flag.FlagSet) {
 	o := &c.options
 	flags.Var((*size.Size)(&o.MaxBody), "max-body", "greatest `size` of the body of a PUT or PATCH")
@@ -189,6 +193,7 @@ func (c *config) addLimits(flags *flag.FlagSet) {
 	flags.Var((*size.Size)(&o.Quota), "quota", "greatest `size` of all files together; 0: no limit")
 	flags.Var((*size.Size)(&o.Memory), "memory", "greatest `size` of the memory of davd; 0: no limit")
 	flags.DurationVar(&o.MaxLock, "max-lock", 10*time.Minute, "longest time until a lock expires")
+	flags.DurationVar(&o.MaxClockChange, "max-clock-change", clock.MaxChange, clockUsage)
 	flags.IntVar(&o.MaxInfinity, "max-infinity", 0, "greatest `number` of resources in a PROPFIND of Depth infinity")
 	flags.IntVar(&o.ClientShare, "client-share", 50, "`percentage` of each limit for all that one client may use")
 	flags.Var((*size.Size)(&o.MaxUploads), "max-uploads", "greatest `size` of all uploads under way (default 64 times -max-body)")
@@ -225,6 +230,8 @@ func (c *config) check(rest []string) error {
 		return errors.New("a timeout is more than 0")
 	case c.hosts.check(checkName) != nil:
 		return fmt.Errorf("-host: %w", c.hosts.check(checkName))
+	case c.options.MaxClockChange <= 0:
+		return errors.New("-max-clock-change is more than 0")
 	case c.options.MaxLock < time.Second:
 		return errors.New("-max-lock is at least one second")
 	}

@@ -31,6 +31,7 @@ func TestParseRefuses(t *testing.T) {
 		{"-idle-timeout 0s", "more than 0"},
 		{"-stall-timeout -1s", "more than 0"},
 		{"-max-lock 10ms", "at least one second"},
+		{"-max-clock-change 0", "more than 0"},
 		{"-max-body 1X", "invalid value"},
 		{"-listen 8080", "the address"},
 		{"-listen :8080", "can be reached by others"},

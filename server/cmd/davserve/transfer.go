@@ -8,10 +8,12 @@ import (
 	"io"
 	"io/fs"
 	"log"
+	"math"
 	"os"
 	"path/filepath"
 	"time"
 
+	"davserve/internal/clock"
 	"davserve/internal/davd"
 	"davserve/internal/size"
 	"davserve/internal/transfer"
@@ -38,6 +40,7 @@ type transferConfig struct {
 	dir    string
 	path   string // in the store
 	quiet  bool
+	change time.Duration // how far the clock of the machine may be from the time of the folder
 }
 
 // start runs the command. It returns the exit status.
@@ -71,7 +74,7 @@ func (t *transferCommand) start(ctx context.Context, arguments []string, output,
 
 // parse reads the command line. What is wrong with it, or the help that it asks for, is written to the output.
 func (t *transferCommand) parse(arguments []string, output io.Writer) (transferConfig, error) {
-	c := transferConfig{davd: defaultDavd()}
+	c := transferConfig{davd: defaultDavd(), change: math.MaxInt64}
 	flags := flag.NewFlagSet("davserve "+t.name, flag.ContinueOnError)
 	flags.SetOutput(output)
 	flags.Usage = func() {
@@ -82,6 +85,9 @@ func (t *transferCommand) parse(arguments []string, output io.Writer) (transferC
 	flags.Func("folder", "the `folder` of the server, as its option -folder", notEmpty(&c.folder))
 	flags.Func("davd", "the `program` davd (default: beside this program, or in PATH)", notEmpty(&c.davd))
 	flags.BoolVar(&c.quiet, "quiet", false, "print only what fails")
+	if !t.needsStore { // An export changes nothing, so that any time will do.
+		flags.DurationVar(&c.change, "max-clock-change", clock.MaxChange, clockUsage)
+	}
 	words, err := parseAnywhere(flags, arguments)
 	if err != nil {
 		return c, err
@@ -102,6 +108,8 @@ func (c *transferConfig) set(words []string) (err error) {
 		return errors.New("it needs one DIR, and at most a PATH after it")
 	case words[0] == "":
 		return errors.New("the name of the DIR is empty")
+	case c.change <= 0:
+		return errors.New("-max-clock-change is more than 0")
 	}
 	c.dir, c.path = words[0], "/"
 	if len(words) == 2 {
@@ -118,7 +126,9 @@ func (t *transferCommand) copy(ctx context.Context, c transferConfig, progress *
 	if err := t.check(c); err != nil {
 		return err
 	}
-	engine, err := davd.Start(ctx, davd.Config{Program: c.davd, Folder: c.folder, Log: log.New(screen, "", 0)})
+	engine, err := davd.Start(ctx, davd.Config{
+		Program: c.davd, Folder: c.folder, Log: log.New(screen, "", 0), MaxClockChange: c.change,
+	})
 	if errors.Is(err, davd.ErrInUse) {
 		err = fmt.Errorf("%w: stop its server first", err)
 	}

@@ -12,6 +12,7 @@ import (
 	"testing"
 	"time"
 
+	"davserve/internal/clock"
 	"davserve/internal/transfer"
 )
 
@@ -27,6 +28,7 @@ func TestParseTransferRefuses(t *testing.T) {
 		{"-folder f dir /a/../b", "no . or .."},
 		{"-folder f dir /a%zz", "two hexadecimal digits"},
 		{"-prefix /dav -folder f dir", "not defined"},
+		{"-max-clock-change 0 -folder f dir", "-max-clock-change"}, // An export does not have it.
 	}
 	for _, command := range []*transferCommand{&imports, &exports} {
 		for _, test := range tests {
@@ -54,8 +56,12 @@ func TestParseTransferAccepts(t *testing.T) {
 		{"-folder /srv/dav dir", transferConfig{davd: davd, folder: "/srv/dav", dir: "dir", path: "/"}},
 		{"dir -folder f -quiet", transferConfig{davd: davd, folder: here + "/f", dir: "dir", path: "/", quiet: true}},
 		{"-davd d -folder /f dir/ /a%20b/", transferConfig{davd: "d", folder: "/f", dir: "dir/", path: "/a%20b"}},
+		{"-max-clock-change 1h -folder /f dir", transferConfig{davd: davd, folder: "/f", dir: "dir", path: "/", change: time.Hour}},
 	}
 	for _, test := range tests {
+		if test.want.change == 0 {
+			test.want.change = clock.MaxChange
+		}
 		if got, err := imports.parse(strings.Fields(test.arguments), io.Discard); err != nil || got != test.want {
 			t.Errorf("%s: %+v, %v, want %+v", test.arguments, got, err, test.want)
 		}

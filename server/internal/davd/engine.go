@@ -13,6 +13,7 @@ import (
 	"sync"
 	"time"
 
+	"davserve/internal/clock"
 	"davserve/internal/frame"
 )
 
@@ -68,8 +69,13 @@ type Config struct {
 	Memory  int64    // limit of its address space in bytes, over a folder once it is loaded; 0: none
 	Rights  string   // the text of the access rules, in TOML; empty: none, and each principal may do everything
 	Log     *log.Logger
+	// MaxClockChange is how far the clock of the machine may be from the last time of the folder at a start, and how far
+	// away it is followed while davd runs. 0: clock.MaxChange.
+	MaxClockChange time.Duration
+	Machine        func() clock.Reading // the clocks of the machine; nil: those of this one
 
-	pauses pauses // zero: the defaults
+	pauses  pauses // zero: the defaults
+	isFirst bool   // the davd is the first one of its engine
 }
 
 // arguments returns all arguments of davd.
@@ -84,6 +90,7 @@ func (c Config) arguments() []string {
 // first returns how the first davd is run. Only that one may serve a folder that has lost something: a loss later on has to
 // be noticed.
 func (c Config) first() Config {
+	c.isFirst = true
 	if c.Lossy {
 		return c.with("-accept-loss")
 	}
@@ -99,6 +106,7 @@ func (c Config) with(arguments ...string) Config {
 // An Engine is a davd that is started again whenever it ends. Its methods may be called at the same time.
 type Engine struct {
 	config Config
+	clock  *clock.Clock
 	stats  *stats
 	closed chan struct{} // closed by Close
 	ended  chan struct{} // closed when davd has ended for good
@@ -116,14 +124,13 @@ type Engine struct {
 	waiting []*call
 	spares  []*Body // bodies that process holds for the uploads to come
 	queued  uint64  // how many calls were queued
-	now     uint64  // the time of the last batch
 	started uint64  // how many times davd was started again
 	rights  *string // the text of the access rules that the next davd gets; nil: none
 }
 
-// Start starts davd. An error says why it could not be started. Over a folder it may be ErrNoStore, ErrInUse or
-// ErrNoAccess, and Start waits until davd has loaded the folder or ctx is done. If the text of the access rules has none,
-// it is a *RightsError.
+// Start starts davd. An error says why it could not be started. Over a folder it may be ErrNoStore, ErrInUse, ErrNoAccess
+// or a *clock.FarError, and Start waits until davd has loaded the folder or ctx is done. If the text of the access rules
+// has none, it is a *RightsError.
 func Start(ctx context.Context, config Config) (*Engine, error) {
 	if config.pauses == (pauses{}) {
 		config.pauses = defaultPauses
@@ -136,7 +143,7 @@ func Start(ctx context.Context, config Config) (*Engine, error) {
 		}
 		config = tagged
 	}
-	now := later(0, time.Now())
+	times := config.newClock()
 	var rights *string
 	if config.Rights != "" {
 		rights = &config.Rights
@@ -144,7 +151,7 @@ func Start(ctx context.Context, config Config) (*Engine, error) {
 	isNew := config.Folder != "" && hasDatabase(config.Folder) != nil
 	others := isNew && hasOthers(config.Folder)
 	isUnnumbered := config.Folder != "" && !isNew && hasNoNumber(config.Folder)
-	process, err := open(config.first(), 0, rights, ctx.Done(), now)
+	process, err := open(config.first(), 0, rights, ctx.Done(), times)
 	if errors.Is(err, errStopped) {
 		return nil, ctx.Err()
 	}
@@ -165,7 +172,7 @@ func Start(ctx context.Context, config Config) (*Engine, error) {
 		config.Log.Printf("the folder %s is served even if its last changes are lost, as -accept-loss says: leave it out at the next start", config.Folder)
 	}
 	e := &Engine{
-		config: config, process: process, now: now, rights: rights,
+		config: config, process: process, clock: times, rights: rights,
 		stats: newStats(), closed: make(chan struct{}), ended: make(chan struct{}),
 	}
 	go e.supervise(process)
@@ -323,10 +330,9 @@ func (e *Engine) next() *batch {
 		return nil
 	}
 	e.writing = true
-	e.now = later(e.now, time.Now())
 	p.number++
 	p.pending++
-	b := &batch{process: p, number: p.number, now: e.now}
+	b := &batch{process: p, number: p.number, now: e.clock.Now()}
 	b.written.Add(1)
 	b.calls, e.waiting = cut(e.waiting)
 	e.guard(b)
@@ -348,6 +354,7 @@ func (e *Engine) write(b *batch) {
 	b.wrote = time.Now()
 	e.stats.sent(b)
 	b.written.Done()
+	e.tellTime()
 	e.mu.Lock()
 	e.writing = false
 	if e.closing || b.process.renewed {
@@ -426,12 +433,4 @@ func (e *Engine) failAdditions() {
 		}
 	}
 	e.waiting = others
-}
-
-// later returns the time in seconds since 1970, or an earlier result if the clock went back.
-func later(last uint64, now time.Time) uint64 {
-	if seconds := now.Unix(); seconds > 0 && uint64(seconds) > last {
-		return uint64(seconds)
-	}
-	return last
 }

@@ -312,15 +312,6 @@ func TestPauses(t *testing.T) {
 	}
 }
 
-func TestTimeNeverGoesBack(t *testing.T) {
-	if got := later(10, time.Unix(12, 0)); got != 12 {
-		t.Errorf("later(10, 12) = %d", got)
-	}
-	if got := later(10, time.Unix(7, 0)); got != 10 {
-		t.Errorf("later(10, 7) = %d", got)
-	}
-}
-
 func TestCut(t *testing.T) {
 	callOf := func(sizes ...int) *call {
 		c := &call{}

@@ -2,6 +2,7 @@ package davd
 
 import (
 	"context"
+	"encoding/binary"
 	"os"
 	"path/filepath"
 	"strconv"
@@ -10,8 +11,8 @@ import (
 	"time"
 )
 
-// A fakeFolder is what fake davds keep: numbers in files. The file last has the number of the last batch that was kept,
-// starts how many davds were started, and backup whether one is under way.
+// A fakeFolder is what fake davds keep: numbers in files. The file last has the number of the last batch that was kept, and
+// time its time, starts how many davds were started, and backup whether one is under way.
 type fakeFolder string
 
 // read returns the number in a file, or 0 if there is no file.
@@ -58,9 +59,15 @@ func fakeOver(folder fakeFolder, acts []string) {
 		folder.set("last", folder.get("last")-1)
 	}
 	number, _ := readBatch()
+	fakeTime = folder.get("time")
 	greetHost(act, number, folder.get("last"))
 	for {
 		number, frames := readBatch()
+		if isAsked(frames) {
+			folder.set("last", number)
+			answerTime(act, number, frames)
+			continue
+		}
 		switch {
 		case number != folder.get("last")+1:
 			writeReplies(folder.get("last"), 409, nil)
@@ -69,12 +76,38 @@ func fakeOver(folder fakeFolder, acts []string) {
 			os.Exit(exit)
 		}
 		folder.set("last", number)
+		folder.set("time", fakeTime)
 		folder.noteBackup(frames)
 		if frames[0][0] == 0 { // a request
 			endKept(act, number, frames)
 		}
 		writeReplies(number, 200, replies(frames))
 	}
+}
+
+// isAsked reports whether frames ask for the last time of a folder: by a lock, and when it expires.
+func isAsked(frames [][]byte) bool {
+	return len(frames) == 3 && frames[0][0] == 0 && frames[1][0] == 5
+}
+
+// answerTime answers such frames.
+func answerTime(act string, number uint64, frames [][]byte) {
+	all := replies(frames)
+	switch act {
+	case "has no memory for a lock":
+		writeReplies(number, 507, nil)
+		return
+	case "fails the frame for the time":
+		all[1] = numbered(7, 507)
+	case "has an exclusive lock of the root":
+		all[0] = append(numbered(0, 423), make([]byte, 10)...)
+		all[1] = binary.BigEndian.AppendUint64([]byte{5, 1}, fakeTime+600)
+	case "has no lock":
+		all[1] = []byte{5, 0}
+	case "ends when it is asked for the time":
+		os.Exit(3)
+	}
+	writeReplies(number, 200, all)
 }
 
 // isBegin reports whether a frame begins a body or a backup, or sets the access rules.

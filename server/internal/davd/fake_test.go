@@ -84,6 +84,9 @@ func readBatch() (number uint64, frames [][]byte) {
 	if _, err := io.ReadFull(os.Stdin, header[:]); err != nil {
 		os.Exit(0)
 	}
+	if now := binary.BigEndian.Uint64(header[8:]); now > fakeTime {
+		fakeTime = now
+	}
 	content := make([]byte, binary.BigEndian.Uint64(header[16:]))
 	if _, err := io.ReadFull(os.Stdin, content); err != nil {
 		os.Exit(3)
@@ -100,6 +103,9 @@ func readBatch() (number uint64, frames [][]byte) {
 	return binary.BigEndian.Uint64(header[:]), frames
 }
 
+// fakeTime is the time of a fake davd, which is that of the latest batch.
+var fakeTime uint64
+
 // replies answers frames. A quota's used bytes are the number of this process, the greatest how many frames came with
 // this one.
 func replies(frames [][]byte) [][]byte {
@@ -107,13 +113,15 @@ func replies(frames [][]byte) [][]byte {
 	for _, f := range frames {
 		var reply []byte
 		switch f[0] {
-		case 0: // a request: a response with the status 201, and the access rules in the field rights
-			reply = binary.BigEndian.AppendUint64(append(numbered(0, 201), 0), 1)
+		case 0: // a request: a response with the access rules in the field rights
+			reply = binary.BigEndian.AppendUint64(append(numbered(0, fakeStatus(f)), 0), 1)
 			reply = append(appendText(appendText(reply, "rights"), fakeRights), 0)
 		case 1:
 			reply = numbered(1, uint64(os.Getpid()))
 		case 2, 3, 7, 8:
 			reply = []byte{2}
+		case 5: // A lock expires in a second.
+			reply = binary.BigEndian.AppendUint64([]byte{5, 1}, fakeTime+1)
 		case 6:
 			reply = append(numbered(6, uint64(len(frames))), 1)
 			reply = append(binary.BigEndian.AppendUint64(reply, uint64(os.Getpid())), 0)
@@ -131,6 +139,14 @@ func replies(frames [][]byte) [][]byte {
 		all = append(all, reply)
 	}
 	return all
+}
+
+// fakeStatus returns the status of the response to a request: 200 to a LOCK, and 201 to others.
+func fakeStatus(f []byte) uint64 {
+	if strings.HasPrefix(string(f[9:]), "LOCK") {
+		return 200
+	}
+	return 201
 }
 
 // withoutPieces answers frames as a davd that has no memory for a piece: the request with its body fails.

@@ -11,6 +11,7 @@ import (
 	"syscall"
 	"time"
 
+	"davserve/internal/clock"
 	"davserve/internal/frame"
 )
 
@@ -19,8 +20,8 @@ var errStopped = errors.New("it was stopped")
 
 // open starts davd. Over a folder it waits until davd has named the last batch that it kept, and then limits its memory.
 // It gives davd the access rules, if there are some. It gives up when stop is closed. A folder whose last batch is before
-// the one that was answered is not served.
-func open(config Config, answered uint64, rights *string, stop <-chan struct{}, now uint64) (*process, error) {
+// the one that was answered is not served. The first davd has the clock go on from the last time of the folder.
+func open(config Config, answered uint64, rights *string, stop <-chan struct{}, times *clock.Clock) (*process, error) {
 	if err := expectPlainFiles(config.Folder); err != nil {
 		return nil, fmt.Errorf("davd cannot serve the folder %s: %w", config.Folder, err)
 	}
@@ -28,7 +29,7 @@ func open(config Config, answered uint64, rights *string, stop <-chan struct{}, 
 	if err != nil || config.Folder == "" && rights == nil {
 		return p, err
 	}
-	err = p.await(stop, config.pauses.load, func() error { return p.greet(config, rights, now) })
+	err = p.await(stop, config.pauses.load, func() error { return p.greet(config, rights, times) })
 	if err == nil && p.kept < answered {
 		err = fmt.Errorf("it has lost changes that were answered: its last batch is %d, and %d was answered", p.kept, answered)
 	} else if err == nil && config.Folder != "" {
@@ -39,7 +40,7 @@ func open(config Config, answered uint64, rights *string, stop <-chan struct{}, 
 		return p, nil
 	}
 	p.kill()
-	if end := p.wait(); !isReply(err) {
+	if end := p.wait(); !isReply(err) && !isFar(err) {
 		err = whyNot(err, end)
 	}
 	if config.Folder == "" {
@@ -100,16 +101,21 @@ func expectPlainFiles(folder string) error {
 
 // greet is what is done before davd is in service: it names the last batch that it kept in its folder, and gets the access
 // rules. Its memory is not limited yet over a folder, so that the rules find room beside what fills it.
-func (p *process) greet(config Config, rights *string, now uint64) error {
+func (p *process) greet(config Config, rights *string, times *clock.Clock) error {
 	if config.Folder != "" {
-		if err := p.ask(now); err != nil {
+		if err := p.ask(times.Now()); err != nil {
+			return err
+		}
+	}
+	if config.Folder != "" && config.isFirst && config.pauses.asks {
+		if err := p.compare(config, times); err != nil {
 			return err
 		}
 	}
 	if rights == nil {
 		return nil
 	}
-	return p.setRights(*rights, now)
+	return p.setRights(*rights, times.Now())
 }
 
 // await waits for what is done with davd. If that takes longer than the limit, or if stop is closed before, davd is

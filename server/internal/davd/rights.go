@@ -64,25 +64,32 @@ func (e *Engine) Explain(ctx context.Context, principal *string, path string) (f
 
 // setRights has a davd that is not in service yet serve by access rules. Nobody else may use it.
 func (p *process) setRights(rules string, now uint64) error {
-	p.number++
 	c := newCall(frame.SetRights{Rules: rules})
-	b := &batch{process: p, number: p.number, now: now, calls: []*call{c}}
-	err := p.write(b)
-	if err == nil {
-		err = p.read(b)
-	}
-	switch {
-	case err == io.EOF:
-		return errors.New("it has not answered")
-	case err != nil:
+	if err := p.serveAlone(c, now); err != nil {
 		return err
 	}
-	if err = c.err; err == nil {
+	err := c.err
+	if err == nil {
 		err = failureOf(c.replies[0])
 	}
 	var failed *StatusError
 	if errors.As(err, &failed) {
 		return fmt.Errorf("the access rules cannot be set: %w", err)
+	}
+	return err
+}
+
+// serveAlone has a davd that is not in service yet answer a call. Nobody else may use it. What davd has replied is in the
+// call.
+func (p *process) serveAlone(c *call, now uint64) error {
+	p.number++
+	b := &batch{process: p, number: p.number, now: now, calls: []*call{c}}
+	err := p.write(b)
+	if err == nil {
+		err = p.read(b)
+	}
+	if err == io.EOF {
+		return errors.New("it has not answered")
 	}
 	return err
 }

@@ -20,6 +20,7 @@ type pauses struct {
 	full            time.Duration // how long a davd serves at least that is full, until the next one is tried
 	rest            time.Duration // how long nothing changes until davd brings to the disk how far its folder is; 0: never
 	watch           time.Duration // how often the files of the folder are compared with those that davd has open; 0: never
+	asks            bool          // the first davd is asked for the last time of its folder
 }
 
 var defaultPauses = pauses{
@@ -31,6 +32,7 @@ var defaultPauses = pauses{
 	full:     time.Minute,
 	rest:     1500 * time.Millisecond, // more than a second by a clock of whole seconds
 	watch:    500 * time.Millisecond,
+	asks:     true,
 }
 
 // after returns the pause after a davd that ran for so long and was started after the pause last.
@@ -213,14 +215,14 @@ func (e *Engine) restart(pause *time.Duration, answered uint64) *process {
 // in service: only the reply of a davd changes them, and there is none.
 func (e *Engine) openNext(answered uint64) (*process, error) {
 	if e.config.Folder == "" {
-		return open(e.config, 0, e.nextRights(), e.closed, e.later())
+		return open(e.config, 0, e.nextRights(), e.closed, e.clock)
 	}
 	e.setLoading(true)
 	defer e.setLoading(false)
 	if err := hasDatabase(e.config.Folder); err != nil {
 		return nil, fmt.Errorf("davd cannot serve the folder %s: %w", e.config.Folder, err)
 	}
-	return open(e.config, answered, e.nextRights(), e.closed, e.later())
+	return open(e.config, answered, e.nextRights(), e.closed, e.clock)
 }
 
 // hasDatabase checks that a folder that was served has its database. Otherwise davd would make a new store there.
@@ -287,14 +289,6 @@ func (e *Engine) attach(p *process) *process {
 	e.reportCalls("davd has kept %d frames that it had not answered: %q", kept)
 	e.reportCalls("davd has not done %d frames that it had not answered: %q", undone)
 	return p
-}
-
-// later returns the time, which never goes back.
-func (e *Engine) later() uint64 {
-	e.mu.Lock()
-	defer e.mu.Unlock()
-	e.now = later(e.now, time.Now())
-	return e.now
 }
 
 func (e *Engine) isClosing() bool {
