@@ -32,6 +32,7 @@ type Handler struct {
 	trees   trees
 	checks  *checks
 	memory  *share.Pool // bytes of XML and of lists
+	turns   *share.Pool // lists that davd makes and that may be long
 	uploads *share.Pool // bytes of uploads under way
 	sizes   *sizes
 }
@@ -66,6 +67,7 @@ func New(ctx context.Context, options Options) (*Handler, error) {
 	h := &Handler{
 		options: options, host: host, engine: engine, checks: newChecks(),
 		memory:  share.NewPool(options.XMLMemory, options.ClientShare, waitingShares),
+		turns:   share.NewPool(listsAtOnce, options.ClientShare, waitingShares),
 		uploads: share.NewPool(options.MaxUploads, options.ClientShare, waitingShares),
 		sizes:   newSizes(),
 	}
@@ -153,7 +155,7 @@ func (e statusError) Error() string {
 func (h *Handler) ServeHTTP(w http.ResponseWriter, r *http.Request) {
 	w.Header().Set("X-Content-Type-Options", "nosniff")
 	r, memory := h.withHolding(detach.Request(r))
-	defer memory.release()
+	defer memory.end()
 	if err := h.serve(w, r); err != nil {
 		h.fail(w, r, err)
 	}

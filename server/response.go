@@ -3,7 +3,6 @@ package davserve
 import (
 	"bytes"
 	"compress/gzip"
-	"context"
 	"fmt"
 	"io"
 	"net/http"
@@ -56,11 +55,6 @@ func (h *Handler) answer(w http.ResponseWriter, r *http.Request, request *frame.
 	}
 	h.setModified(r, response)
 	return h.write(w, r, response)
-}
-
-// ask sends a request to davd and returns its response.
-func (h *Handler) ask(ctx context.Context, request *frame.Request) (*frame.Response, error) {
-	return h.askFor(ctx, request)
 }
 
 // responseOf makes sure that the reply to a request is a response.

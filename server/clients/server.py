@@ -89,7 +89,7 @@ class Server:
     """A davserve on loopback that answers."""
 
     def __init__(self, programs: Programs, files: pathlib.Path, flags, is_measured: bool, davd=None, host="127.0.0.1",
-                 is_awaited=True):
+                 is_awaited=True, variables=()):
         self.programs = programs
         self.files = files  # a folder for what the checks need on disk
         self.flags = [str(it) for it in flags]
@@ -101,7 +101,7 @@ class Server:
         self.log_file = files / f"log-{self.port}-{time.monotonic_ns()}"
         program = programs.davserve if is_measured else programs.race
         command = [program, "-listen", f"{host}:{self.port}", "-davd", davd or programs.davd, *self.flags]
-        environment = {**os.environ, "GORACE": "halt_on_error=0"}
+        environment = {**os.environ, "GORACE": "halt_on_error=0", **dict(variables)}
         with self.log_file.open("wb") as log:
             self.process = PROCESSES.start(command, stdout=log, stderr=log, env=environment)
         if is_awaited:

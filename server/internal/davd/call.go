@@ -36,7 +36,8 @@ type call struct {
 	operates string // the access rules of the operator whose call it is; empty: it is none of an operator
 	spoiled  error  // why it was not served by these rules; set before replies
 
-	replied func(reply []byte) // called before who waits gets the reply; nil: nothing
+	replied func(reply []byte)   // called before who waits gets the reply; nil: nothing
+	fits    func(bytes int) bool // whether there is memory for a reply, before it is read; nil: there is
 }
 
 func newCall(f frame.Frame) *call {

@@ -33,6 +33,8 @@ var (
 	ErrDown = errors.New("davd does not run")
 	// ErrClosed says that the engine is closed.
 	ErrClosed = errors.New("the engine is closed")
+	// ErrDropped says that davd has done what the frame asks for, and that its reply was dropped.
+	ErrDropped = frame.ErrDropped
 	// ErrInBackup says that a backup is under way.
 	ErrInBackup = errors.New("another backup is under way")
 )
@@ -224,17 +226,13 @@ func (e *Engine) Do(ctx context.Context, f frame.Frame) (frame.Reply, error) {
 	return e.do(ctx, newCall(f))
 }
 
-// DoSized does what Do does, and calls a function with the length of the reply before it decodes it. An error of the
-// function is that of DoSized.
-func (e *Engine) DoSized(ctx context.Context, f frame.Frame, sized func(bytes int) error) (frame.Reply, error) {
-	replies, err := e.exchange(ctx, newCall(f))
-	if err != nil {
-		return nil, err
-	}
-	if err := sized(len(replies[0])); err != nil {
-		return nil, err
-	}
-	return decode(replies[0])
+// DoFitting does what Do does, and calls a function with the length of the reply before the reply is read. If that returns
+// false, the reply is dropped, and the error is ErrDropped. The function is called while all other replies wait, and maybe
+// after DoFitting has returned.
+func (e *Engine) DoFitting(ctx context.Context, f frame.Frame, fits func(bytes int) bool) (frame.Reply, error) {
+	c := newCall(f)
+	c.fits = fits
+	return e.do(ctx, c)
 }
 
 func (e *Engine) do(ctx context.Context, c *call) (frame.Reply, error) {

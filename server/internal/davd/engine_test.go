@@ -350,3 +350,31 @@ func TestCut(t *testing.T) {
 		}
 	}
 }
+
+// A reply that does not fit is dropped, and those beside it in the batch are not.
+func TestAReplyThatDoesNotFitIsDropped(t *testing.T) {
+	engine, said := startFake(t, "sound")
+	ctx := context.Background()
+	var all sync.WaitGroup
+	for i := 0; i < 50; i++ {
+		all.Add(2)
+		go func() {
+			defer all.Done()
+			length := 0
+			reply, err := engine.DoFitting(ctx, frame.Held{}, func(n int) bool { length = n; return false })
+			if reply != nil || err != ErrDropped || length != 19 {
+				t.Errorf("of %d bytes: %v, %v", length, reply, err)
+			}
+		}()
+		go func() {
+			defer all.Done()
+			if _, err := engine.DoFitting(ctx, frame.Held{}, func(n int) bool { return n == 19 }); err != nil {
+				t.Error(err)
+			}
+		}()
+	}
+	all.Wait()
+	if engine.Started() != 0 {
+		t.Errorf("davd was started again:\n%s", said)
+	}
+}

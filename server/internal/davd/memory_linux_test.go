@@ -105,7 +105,7 @@ func TestADavdThatIsFullIsStartedAgainWhenSomethingWasRemoved(t *testing.T) {
 	engine, said := startShell(t, 16<<20, growsOnce, greets, waits, answers, goesOn)
 	expectNoMemory(t, engine, change)
 	expectRemoved(t, engine)
-	for end := time.Now().Add(10 * time.Second); ; time.Sleep(10 * time.Millisecond) {
+	for end := time.Now().Add(time.Minute); ; time.Sleep(10 * time.Millisecond) {
 		if _, err := engine.Do(soon(t), change); err == nil {
 			break
 		} else if err != errNoMemory || time.Now().After(end) {

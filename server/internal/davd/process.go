@@ -174,8 +174,8 @@ func (p *process) read(b *batch) error {
 	b.written.Wait() // Whoever gets a reply may use the memory of the frame again.
 	b.took = came.Sub(latest(b.wrote, p.free))
 	for _, c := range b.calls {
-		replies, err := p.readReplies(len(c.frames))
-		if err != nil {
+		replies, err := p.readReplies(len(c.frames), c.fits)
+		if err != nil && err != frame.ErrDropped {
 			return err
 		}
 		b.answered++
@@ -185,23 +185,26 @@ func (p *process) read(b *batch) error {
 		if c.replied != nil {
 			c.replied(replies[0])
 		}
-		c.finish(replies, nil)
+		c.finish(replies, err)
 	}
 	p.free = time.Now()
 	return nil
 }
 
-// readReplies reads so many replies.
-func (p *process) readReplies(count int) ([][]byte, error) {
-	replies := make([][]byte, count)
+// readReplies reads so many replies. The error is frame.ErrDropped if all are read, and one of them did not fit.
+func (p *process) readReplies(count int, fits func(int) bool) (replies [][]byte, dropped error) {
+	replies = make([][]byte, count)
 	for i := range replies {
-		reply, err := frame.ReadReply(p.reader, replyLimit)
-		if err != nil {
+		reply, err := frame.ReadReply(p.reader, replyLimit, fits)
+		switch {
+		case err == frame.ErrDropped:
+			dropped = err
+		case err != nil:
 			return nil, err
 		}
 		replies[i] = reply
 	}
-	return replies, nil
+	return replies, dropped
 }
 
 // latest returns the later one of two times.

@@ -14,6 +14,9 @@ const HeaderLen = 24
 // ErrTooLong says that a reply has more bytes than its reader accepts.
 var ErrTooLong = errors.New("reply too long")
 
+// ErrDropped says that a reply was read and dropped, because it does not fit.
+var ErrDropped = errors.New("reply dropped")
+
 // A BatchHeader is the header of a batch of frames. The content follows.
 type BatchHeader struct {
 	Number uint64
@@ -75,8 +78,11 @@ func ReadReplyHeader(r io.Reader) (ReplyHeader, error) {
 // nothing after its length is read: so r is of no more use. If r ends before the reply does, the error is
 // io.ErrUnexpectedEOF.
 //
+// The function fits is called with the length of the reply before it is read; nil: it always fits. One that does not is
+// read and dropped, and the error is ErrDropped.
+//
 // For a long reply ReadReply allocates memory as its bytes arrive, whatever length it states.
-func ReadReply(r io.Reader, limit uint64) ([]byte, error) {
+func ReadReply(r io.Reader, limit uint64, fits func(bytes int) bool) ([]byte, error) {
 	var b [8]byte
 	if _, err := io.ReadFull(r, b[:]); err != nil {
 		return nil, unexpected(err)
@@ -84,6 +90,12 @@ func ReadReply(r io.Reader, limit uint64) ([]byte, error) {
 	n := binary.BigEndian.Uint64(b[:])
 	if n > limit || n > math.MaxInt {
 		return nil, fmt.Errorf("%w: %d bytes, at most %d", ErrTooLong, n, limit)
+	}
+	if fits != nil && !fits(int(n)) {
+		if _, err := io.CopyN(io.Discard, r, int64(n)); err != nil {
+			return nil, unexpected(err)
+		}
+		return nil, ErrDropped
 	}
 	return readGrowing(r, int(n))
 }

@@ -62,7 +62,7 @@ func TestReadReply(t *testing.T) {
 		expected := bytes.Repeat([]byte("0123456"), n/7+1)[:n]
 		b := append(appendBytes(nil, expected), "rest"...)
 		r := bytes.NewReader(b)
-		got, err := ReadReply(iotest.HalfReader(r), uint64(n))
+		got, err := ReadReply(iotest.HalfReader(r), uint64(n), nil)
 		if err != nil || !bytes.Equal(got, expected) || r.Len() != len("rest") {
 			t.Errorf("%d bytes: read %d, %v, and %d are left", n, len(got), err, r.Len())
 		}
@@ -70,7 +70,7 @@ func TestReadReply(t *testing.T) {
 			if cut >= 8+n {
 				continue
 			}
-			if got, err := ReadReply(bytes.NewReader(b[:cut]), uint64(n)); got != nil || err != io.ErrUnexpectedEOF {
+			if got, err := ReadReply(bytes.NewReader(b[:cut]), uint64(n), nil); got != nil || err != io.ErrUnexpectedEOF {
 				t.Errorf("%d of %d bytes: %d read, %v, expected io.ErrUnexpectedEOF", cut, n+8, len(got), err)
 			}
 		}
@@ -81,10 +81,34 @@ func TestReadReplyLimit(t *testing.T) {
 	for _, test := range []struct{ stated, limit uint64 }{{1, 0}, {101, 100}, {greatest, 100}, {greatest, greatest}} {
 		b := append(appendNumber(nil, test.stated), make([]byte, 200)...)
 		r := bytes.NewReader(b)
-		got, err := ReadReply(r, test.limit)
+		got, err := ReadReply(r, test.limit, nil)
 		if got != nil || !errors.Is(err, ErrTooLong) || r.Len() != 200 {
 			t.Errorf("%d bytes, at most %d: %d read, %v, expected ErrTooLong", test.stated, test.limit, len(got), err)
 		}
+	}
+}
+
+// A reply that does not fit is dropped as it comes, whatever length it states, and the next one can be read.
+func TestReadReplyThatDoesNotFit(t *testing.T) {
+	for _, n := range []int{0, 1, firstStep, 50 * firstStep} {
+		b := appendBytes(appendBytes(nil, make([]byte, n)), []byte("next"))
+		r := bytes.NewReader(b)
+		asked := -1
+		var err error
+		got := allocated(func() {
+			_, err = ReadReply(r, uint64(n), func(bytes int) bool { asked = bytes; return false })
+		})
+		if err != ErrDropped || asked != n || got > firstStep/2 {
+			t.Errorf("%d bytes: asked for %d, %d allocated, %v", n, asked, got, err)
+		}
+		next, err := ReadReply(r, 4, func(bytes int) bool { return bytes == 4 })
+		if err != nil || string(next) != "next" {
+			t.Errorf("%d bytes: the next one is %q, %v", n, next, err)
+		}
+	}
+	b := appendBytes(nil, make([]byte, 100))
+	if _, err := ReadReply(bytes.NewReader(b[:60]), 100, func(int) bool { return false }); err != io.ErrUnexpectedEOF {
+		t.Errorf("one that is cut: %v", err)
 	}
 }
 
@@ -92,7 +116,7 @@ func TestReadReplyMemory(t *testing.T) {
 	for _, arrive := range []int{0, 10, 1 << 20, 4 << 20} {
 		b := append(appendNumber(nil, 1<<50), make([]byte, arrive)...)
 		var err error
-		got := allocated(func() { _, err = ReadReply(bytes.NewReader(b), 1<<60) })
+		got := allocated(func() { _, err = ReadReply(bytes.NewReader(b), 1<<60, nil) })
 		// Each buffer is twice as long as the one before it.
 		if limit := uint64(2*firstStep + 4*arrive); err != io.ErrUnexpectedEOF || got > limit {
 			t.Errorf("%d bytes arrive: %d allocated, at most %d, %v", arrive, got, limit, err)
@@ -104,7 +128,7 @@ func TestReadReplyError(t *testing.T) {
 	failure := errors.New("pipe failed")
 	for _, b := range []string{"", "\x00\x00", "\x00\x00\x00\x00\x00\x00\x00\x05ab"} {
 		r := io.MultiReader(strings.NewReader(b), iotest.ErrReader(failure))
-		if _, err := ReadReply(r, 100); !errors.Is(err, failure) {
+		if _, err := ReadReply(r, 100, nil); !errors.Is(err, failure) {
 			t.Errorf("%q: %v, expected %v", b, err, failure)
 		}
 		r = io.MultiReader(strings.NewReader(b), iotest.ErrReader(failure))

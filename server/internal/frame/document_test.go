@@ -112,7 +112,7 @@ func TestDocumentReplies(t *testing.T) {
 		},
 	}
 	for i := range expected {
-		b, err := ReadReply(r, 165)
+		b, err := ReadReply(r, 165, nil)
 		if err != nil {
 			t.Fatal(err)
 		}
