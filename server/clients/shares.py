@@ -5,7 +5,7 @@ import time
 
 import accounts
 from connection import Connection, Wrong, head
-from harness import Group
+from harness import Group, Starter
 from http2 import CANCEL, CONTINUATION, HEADERS, PING, RST_STREAM, Http2, block, frame, headers
 from server import Server, expect, expected
 
@@ -17,6 +17,7 @@ PACE = Group("least rate", "-stall-timeout", f"{STALL}s")
 SECURE = Group("shares of http2", "{tls}", "-max-requests", str(REQUESTS), "-stall-timeout", f"{STALL}s", is_measured=True)
 WITHOUT = Group("no http2", "{tls}", "-http2=false")
 BYTES = Group("shares of bytes", "-max-uploads", "8M", "-xml-memory", "16M")
+LISTS = Group("shares of lists", is_shared=False, is_measured=True)
 USERS = Group("shares of users", *accounts.FLAGS, "-max-requests", str(REQUESTS), files=accounts.FILES)
 LOGINS = Group("shares of logins", "-users", "{users}", is_measured=True, files={
     # The same passwords, and a check takes as long as by `htpasswd -B -C 10`.
@@ -25,7 +26,7 @@ LOGINS = Group("shares of logins", "-users", "{users}", is_measured=True, files=
 })
 PROXIED = Group("shares behind a proxy", "-trusted-proxy", "127.0.0.9/32", "-max-requests", str(REQUESTS))
 HOSTS = Group("hosts", "-host", "dav.example", "-host", "other.example")
-GROUPS = [SHARED, PACE, SECURE, WITHOUT, BYTES, USERS, LOGINS, PROXIED, HOSTS]
+GROUPS = [SHARED, PACE, SECURE, WITHOUT, BYTES, LISTS, USERS, LOGINS, PROXIED, HOSTS]
 
 
 def asked(server: Server, source: str, method="GET", path="/none", status=404, seconds: float = 5, fields=()):
@@ -169,6 +170,32 @@ def short(server):
         expect("the end of the connection", connection.ends_within(STALL + 3), True)
 
 
+RATE, AHEAD, SHAKE_SECONDS = 50, 100, 3
+
+
+@SECURE.check(f"an address makes {RATE} handshakes a second, and {AHEAD} at once, and another one connects meanwhile")
+def handshakes(server):
+    end, made = time.monotonic() + SHAKE_SECONDS, []
+
+    def shake():
+        while time.monotonic() < end:
+            with server.connect(source=GREEDY, seconds=10):
+                made.append(time.monotonic())
+
+    threads = [threading.Thread(target=shake) for _ in range(16)]
+    for it in threads:
+        it.start()
+    took = []
+    while time.monotonic() < end:
+        took.append(asked(server, MODEST))
+    for it in threads:
+        it.join()
+    soon = sum(it < end for it in made)
+    if not AHEAD < soon < AHEAD + RATE * (SHAKE_SECONDS + 1):
+        raise Wrong(f"expected {AHEAD} handshakes and {RATE} a second, got {soon} in {SHAKE_SECONDS} s")
+    return f"{soon} in {SHAKE_SECONDS} s, and another client waited at most {max(took):.2f} s"
+
+
 FLOODS = [
     ("pings", lambda _: frame(PING, 0, 0, bytes(8))),
     ("empty DATA", lambda it: frame(0, 0, it)),
@@ -292,6 +319,63 @@ def xml(server):
             third.request("PROPFIND", "/", short, {"Depth": "0"})
             expected(third.answer(), 207, "PROPFIND /")
         expected(second.answer(), 503, "PROPFIND /")
+
+
+# ---- lists
+
+MEMBERS, AT_ONCE = 6000, 100
+XML_MEMORY, MOST_MEMORY = 64, 150
+"""In MB. What is garbage is collected early, so that the rest is counted."""
+
+
+def fill(server: Server, path: str, numbers: range):
+    with server.connect(seconds=30) as connection:
+        for number in numbers:
+            connection.request("MKCOL", f"{path}{number}/")
+            expected(connection.answer(), 201, "MKCOL")
+
+
+def together(calls: list):
+    """Makes the calls at the same time, and returns when all have ended."""
+    threads = [threading.Thread(target=it) for it in calls]
+    for it in threads:
+        it.start()
+    for it in threads:
+        it.join()
+
+
+@LISTS.check(f"{AT_ONCE} lists of {MEMBERS} members that nobody has listed before need at most {MOST_MEMORY} MB, and another client is served", 120)
+def first_lists(starter: Starter):
+    flags = ("-xml-memory", f"{XML_MEMORY}M", "-max-requests", "1024")
+    server = starter.start(*flags, variables={"GOGC": "25"})
+    server.ask("MKCOL", "/long/", status=201)
+    parts = [range(start, start + MEMBERS // 8) for start in range(0, MEMBERS, MEMBERS // 8)]
+    together([lambda part=part: fill(server, "/long/", part) for part in parts])
+    before, statuses, waited = server.resident(), [], []
+    ends = threading.Event()
+
+    def ask(number: int):
+        source = f"127.0.1.{1 + number % 50}"
+        with server.connect(source=source, seconds=60) as connection:
+            connection.request("PROPFIND", "/long/", None, {"Depth": "1"})
+            statuses.append(connection.answer("PROPFIND").status)
+
+    def modest():
+        while not ends.is_set():
+            waited.append(asked(server, MODEST, seconds=60))
+            time.sleep(0.05)
+
+    other = threading.Thread(target=modest)
+    other.start()
+    together([lambda number=number: ask(number) for number in range(AT_ONCE)])
+    ends.set()
+    other.join()
+    if not set(statuses) <= {207, 503} or 207 not in statuses:
+        raise Wrong(f"expected 207, or 503 of some, got {statuses}")
+    grown = (server.resident() - before) // MB
+    if grown > MOST_MEMORY:
+        raise Wrong(f"expected at most {MOST_MEMORY} MB more, got {grown} MB")
+    return f"{statuses.count(207)} of {AT_ONCE} were served, {grown} MB more, another client waited at most {max(waited):.2f} s"
 
 
 # ---- users and addresses

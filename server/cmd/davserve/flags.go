@@ -38,6 +38,7 @@ type config struct {
 	http2          bool
 	maxConnections int
 	maxRequests    int
+	handshakes     int
 
 	headerTimeout   time.Duration
 	idleTimeout     time.Duration
@@ -201,11 +202,15 @@ func (c *config) addLimits(flags *flag.FlagSet) {
 	flags.Var((*size.Size)(&o.LeastRate), "least-rate", "`bytes` a second that a client must send or receive; 0: any")
 	flags.IntVar(&c.maxConnections, "max-connections", 1024, "greatest `number` of open connections")
 	flags.IntVar(&c.maxRequests, "max-requests", 256, "greatest `number` of requests at once")
+	flags.IntVar(&c.handshakes, "max-handshakes", 50, "greatest `number` of handshakes of TLS a second of one address; 0: any")
 	flags.DurationVar(&c.headerTimeout, "header-timeout", 20*time.Second, "time for the header of a request")
 	flags.DurationVar(&c.idleTimeout, "idle-timeout", 2*time.Minute, "time until an idle connection is closed")
 	flags.DurationVar(&o.StallTimeout, "stall-timeout", time.Minute, "time that a body or a response may wait for its client")
 	flags.DurationVar(&c.shutdownTimeout, "shutdown-timeout", 10*time.Second, "time for requests under way at the end")
 }
+
+// mostHandshakes is the greatest bound of handshakes a second.
+const mostHandshakes = 1_000_000
 
 // check refuses what cannot be meant, and what is not safe.
 func (c *config) check(rest []string) error {
@@ -226,6 +231,8 @@ func (c *config) check(rest []string) error {
 		return errors.New("-xml-memory is more than 0")
 	case c.maxConnections < 1 || c.maxRequests < 1:
 		return errors.New("-max-connections and -max-requests are at least 1")
+	case c.handshakes < 0 || c.handshakes > mostHandshakes:
+		return fmt.Errorf("-max-handshakes is 0 to %d", mostHandshakes)
 	case c.headerTimeout <= 0 || c.idleTimeout <= 0 || c.shutdownTimeout <= 0 || c.options.StallTimeout <= 0:
 		return errors.New("a timeout is more than 0")
 	case c.hosts.check(checkName) != nil:

@@ -28,6 +28,8 @@ func TestParseRefuses(t *testing.T) {
 		{"-host a:80", "without a port"},
 		{"-host=", "name of a host"},
 		{"-max-requests 0", "at least 1"},
+		{"-max-handshakes -1", "0 to 1000000"},
+		{"-max-handshakes 1000001", "0 to 1000000"},
 		{"-idle-timeout 0s", "more than 0"},
 		{"-stall-timeout -1s", "more than 0"},
 		{"-max-lock 10ms", "at least one second"},

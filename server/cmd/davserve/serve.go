@@ -80,6 +80,9 @@ func (c *config) serveHTTP(ctx context.Context, dav *davserve.Handler, meter *me
 	if err != nil {
 		return err
 	}
+	if tlsConfig != nil && c.handshakes > 0 {
+		tlsConfig.GetConfigForClient = limit.NewHandshakes(c.handshakes, limits.connection).Await
+	}
 	listener, err := net.Listen("tcp", c.listen)
 	if err != nil {
 		return err
