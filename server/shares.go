@@ -24,8 +24,8 @@ const (
 	// listsAtOnce is for how many lists davd is asked at once that may be long. It makes one after the other, while other
 	// requests wait, and may have all of them in its memory before it returns the first.
 	listsAtOnce = 8
-	// listMemory is what a list of members has until its length is known, and changeMemory what the response to a DELETE,
-	// COPY or MOVE has, which may name each resource that stays.
+	// listMemory is what a list of members has until its length is known, and changeMemory what a change has whose response
+	// may be long: that to a DELETE names each resource that stays.
 	listMemory, changeMemory = 1 << 20, 64 << 10
 	// replyMemory is how many bytes a byte of a reply needs, for its tree and its text. freeReply is how long one may be
 	// without memory of its own.
@@ -185,12 +185,12 @@ func (h *Handler) ask(ctx context.Context, request *frame.Request) (*frame.Respo
 	switch request.Method {
 	case "PROPFIND":
 		return h.askAgain(ctx, request)
-	case http.MethodDelete, "COPY", "MOVE":
+	case http.MethodDelete, "COPY", "MOVE", "PROPPATCH", "LOCK":
 		if err := need(ctx, changeMemory); err != nil {
 			return nil, err
 		}
 	}
-	response, err := h.askOnce(ctx, request, func(int64) {})
+	response, err := h.askOnce(ctx, request, func(int64) {}, nil)
 	if errors.Is(err, davd.ErrDropped) {
 		return nil, statusError(http.StatusInsufficientStorage) // As davd fails one for whose response it has no memory.
 	}
@@ -213,13 +213,11 @@ func (h *Handler) askAgain(ctx context.Context, request *frame.Request) (*frame.
 			return nil, err
 		}
 		response, err := h.askOnce(ctx, request, func(bytes int64) {
-			turn.Release()
 			needed, isShort = bytes, false
 			if isList {
 				h.sizes.set(request.Path, bytes)
 			}
-		})
-		turn.Release()
+		}, turn.Release)
 		if !errors.Is(err, davd.ErrDropped) {
 			return response, err
 		}
@@ -237,13 +235,17 @@ func (h *Handler) turnOf(ctx context.Context, isShort bool) (*share.Lease, error
 }
 
 // askOnce sends a request. Before its response is read, a function gets how much memory that needs. If there is not so
-// much, the error is davd.ErrDropped.
-func (h *Handler) askOnce(ctx context.Context, request *frame.Request, needs func(bytes int64)) (*frame.Response, error) {
+// much, the error is davd.ErrDropped. Another one is called when davd has nothing more to do for the request, unless it is
+// nil: that may be after the client has left.
+func (h *Handler) askOnce(ctx context.Context, request *frame.Request, needs func(bytes int64), over func()) (*frame.Response, error) {
 	m := holdingOf(ctx)
-	return responseOf(h.engine.DoFitting(ctx, request, func(size int) bool {
-		bytes := int64(size) * replyMemory
-		needs(bytes)
-		return size <= freeReply || m.grow(bytes)
+	return responseOf(h.engine.DoFitting(ctx, request, davd.Fitting{
+		Fits: func(size int) bool {
+			bytes := int64(size) * replyMemory
+			needs(bytes)
+			return size <= freeReply || m.grow(bytes)
+		},
+		Over: over,
 	}))
 }
 

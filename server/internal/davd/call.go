@@ -36,8 +36,8 @@ type call struct {
 	operates string // the access rules of the operator whose call it is; empty: it is none of an operator
 	spoiled  error  // why it was not served by these rules; set before replies
 
-	replied func(reply []byte)   // called before who waits gets the reply; nil: nothing
-	fits    func(bytes int) bool // whether there is memory for a reply, before it is read; nil: there is
+	replied func(reply []byte) // called before who waits gets the reply; nil: nothing
+	fitting Fitting
 }
 
 func newCall(f frame.Frame) *call {
@@ -57,7 +57,15 @@ func newCall(f frame.Frame) *call {
 // finish sets what came back, and wakes who waits for it.
 func (c *call) finish(replies [][]byte, err error) {
 	c.replies, c.err = replies, err
+	c.over()
 	c.done <- struct{}{}
+}
+
+// over says that there will be no other reply.
+func (c *call) over() {
+	if c.fitting.Over != nil {
+		c.fitting.Over()
+	}
 }
 
 // size returns how many bytes its frames have.

@@ -226,12 +226,20 @@ func (e *Engine) Do(ctx context.Context, f frame.Frame) (frame.Reply, error) {
 	return e.do(ctx, newCall(f))
 }
 
-// DoFitting does what Do does, and calls a function with the length of the reply before the reply is read. If that returns
-// false, the reply is dropped, and the error is ErrDropped. The function is called while all other replies wait, and maybe
-// after DoFitting has returned.
-func (e *Engine) DoFitting(ctx context.Context, f frame.Frame, fits func(bytes int) bool) (frame.Reply, error) {
+// Fitting says what is called for a frame until it is answered. Neither function may wait.
+type Fitting struct {
+	// Fits gets the length of the reply before that is read. If it returns false, the reply is dropped. It may be called
+	// after DoFitting has returned. Nil: the reply fits.
+	Fits func(bytes int) bool
+	// Over is called once: when the reply was read, or when there will be none. That may be after DoFitting has returned.
+	// Nil: nothing is called.
+	Over func()
+}
+
+// DoFitting does what Do does. If the reply does not fit, the error is ErrDropped.
+func (e *Engine) DoFitting(ctx context.Context, f frame.Frame, fitting Fitting) (frame.Reply, error) {
 	c := newCall(f)
-	c.fits = fits
+	c.fitting = fitting
 	return e.do(ctx, c)
 }
 
@@ -249,7 +257,11 @@ func (e *Engine) exchange(ctx context.Context, c *call) ([][]byte, error) {
 	select {
 	case <-c.done:
 	case <-ctx.Done():
-		if e.withdraw(c) || c.reads {
+		isWithdrawn := e.withdraw(c)
+		if isWithdrawn {
+			c.over()
+		}
+		if isWithdrawn || c.reads {
 			return nil, ctx.Err()
 		}
 		<-c.done

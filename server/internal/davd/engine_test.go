@@ -361,14 +361,14 @@ func TestAReplyThatDoesNotFitIsDropped(t *testing.T) {
 		go func() {
 			defer all.Done()
 			length := 0
-			reply, err := engine.DoFitting(ctx, frame.Held{}, func(n int) bool { length = n; return false })
+			reply, err := engine.DoFitting(ctx, frame.Held{}, Fitting{Fits: func(n int) bool { length = n; return false }})
 			if reply != nil || err != ErrDropped || length != 19 {
 				t.Errorf("of %d bytes: %v, %v", length, reply, err)
 			}
 		}()
 		go func() {
 			defer all.Done()
-			if _, err := engine.DoFitting(ctx, frame.Held{}, func(n int) bool { return n == 19 }); err != nil {
+			if _, err := engine.DoFitting(ctx, frame.Held{}, Fitting{Fits: func(n int) bool { return n == 19 }}); err != nil {
 				t.Error(err)
 			}
 		}()
@@ -376,5 +376,31 @@ func TestAReplyThatDoesNotFitIsDropped(t *testing.T) {
 	all.Wait()
 	if engine.Started() != 0 {
 		t.Errorf("davd was started again:\n%s", said)
+	}
+}
+
+// What a frame holds is given back when davd has answered it, and not when its client leaves before.
+func TestAFrameIsOverWhenDavdHasAnsweredIt(t *testing.T) {
+	engine, _ := startFake(t, "mute after one")
+	over := make(chan int, 100)
+	ask := func(i int) {
+		ctx, cancel := context.WithTimeout(context.Background(), 20*time.Millisecond)
+		defer cancel()
+		engine.DoFitting(ctx, frame.Held{}, Fitting{Over: func() { over <- i }})
+	}
+	for i := 0; i < 20; i++ { // The first one is answered, some are sent, and the others wait until they leave.
+		ask(i)
+	}
+	count := len(over)
+	if count == 0 || count > 20-underWay {
+		t.Errorf("%d of 20 are over", count)
+	}
+	closeSoon(t, engine)
+	for ; count < 20; count++ {
+		select {
+		case <-over:
+		case <-time.After(5 * time.Second):
+			t.Fatalf("%d of 20 are over at the end", count)
+		}
 	}
 }

@@ -174,7 +174,7 @@ func (p *process) read(b *batch) error {
 	b.written.Wait() // Whoever gets a reply may use the memory of the frame again.
 	b.took = came.Sub(latest(b.wrote, p.free))
 	for _, c := range b.calls {
-		replies, err := p.readReplies(len(c.frames), c.fits)
+		replies, err := p.readReplies(len(c.frames), c.fitting.Fits)
 		if err != nil && err != frame.ErrDropped {
 			return err
 		}
