@@ -8,8 +8,8 @@ from programs import SERVER
 from server import PROCESSES
 
 VET_SECONDS = 180
-TEST_SECONDS = 300
-ONE_SECONDS = 120
+TEST_SECONDS = 600
+ONE_SECONDS = 300
 RESULT = re.compile(r"^(ok  |FAIL|---|\?   )\t(\S+)", re.M)
 
 
