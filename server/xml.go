@@ -137,7 +137,7 @@ func (h *Handler) answerFiniteDepth(w http.ResponseWriter, r *http.Request) erro
 		Name: "error", Prefix: "D", Namespace: "DAV:",
 		Nodes: []frame.Node{{Element: &frame.Element{Name: "propfind-finite-depth", Prefix: "D", Namespace: "DAV:"}}},
 	}
-	w.Header().Set("Content-Type", "application/xml; charset=utf-8")
+	w.Header().Set("Content-Type", `text/xml; charset="utf-8"`) // as davd has it
 	writeXML(w, r, http.StatusForbidden, root)
 	return nil
 }

@@ -24,6 +24,8 @@ START_SECONDS = 55
 CALL_SECONDS = 30
 MOST = 5  # seconds until a lock expires that LibreOffice does not refresh
 NAME = "gr\u00fcn <1>; #2.odt"
+# LibreOffice compares the names of a listing with its own URLs.
+LISTED = "report (1).odt", "a+b=c, $5!.odt", "anna's @ 10:30 *.odt"
 FLAGS = ["--headless", "--norestore", "--nologo", "--nodefault", "--nofirststartwizard"]
 
 PLAIN = Group("LibreOffice", needs="soffice")
@@ -228,6 +230,23 @@ def list_(server: Server):
     expect("the members", members(server), {NAME: size(server, NAME), "papers": None})
 
 
+def save_listed(server: Server):
+    """A document that was opened from a folder can be saved, whatever characters its name has but `&`."""
+    body = server.ask("GET", path(server, NAME), None, accounts.AS_ANNA, 200).body
+    for name in LISTED:
+        server.ask("PUT", path(server, f"papers/{name}"), body, accounts.AS_ANNA, 201)
+    listed = office(server).call("list", url(server, "papers"))
+    expect("the number of members", len(listed), len(LISTED))
+    for it in listed:
+        office(server).call("open", it)
+        office(server).call("write", "saved")
+        office(server).call("save")
+        office(server).call("close")
+    expect("the texts", {name: text(server, f"papers/{name}") for name in LISTED}, {name: "saved" for name in LISTED})
+    for name in LISTED:
+        server.ask("DELETE", path(server, f"papers/{name}"), None, accounts.AS_ANNA, 204)
+
+
 def copy(server: Server):
     office(server).call("copy", url(server, NAME), url(server, "papers/b.odt"))
     expect("the members", members(server, "papers"), {"b.odt": size(server, NAME)})
@@ -273,6 +292,7 @@ CHECKS = [
     ("what another client has written is opened", open_changed),
     ("a folder is created", create_folder),
     ("a folder is listed", list_),
+    ("documents that were opened from a folder are saved", save_listed),
     ("a file is copied", copy),
     ("a file is moved", move),
     ("a file is removed", remove),

@@ -81,6 +81,16 @@ def stored_properties(_, answer):
     expect("the statuses", {it: found.status_of(Z + it) for it in WIN32}, {it: 200 for it in WIN32})
 
 
+def has_times(_, answer):
+    """The file has the times that were set, for each client and not only for Windows."""
+    found = multistatus.only(answer)
+    created, _, modified = (it.decode() for it in TIMES)
+    expect("Win32CreationTime", found.text(Z + "Win32CreationTime"), created)
+    expect("Win32LastModifiedTime", found.text(Z + "Win32LastModifiedTime"), modified)
+    expect("getlastmodified", found.text(D + "getlastmodified"), modified)
+    expect("creationdate", found.text(D + "creationdate"), "2023-11-07T10:00:00Z")
+
+
 def has_length(_, answer):
     expect("Content-Length", answer.field("Content-Length"), str(len(CONTENT)))
     expect("an entity tag", bool(answer.field("ETag")), True)
@@ -122,7 +132,8 @@ STEPS = [
     Step("HEAD has the new length", head("HEAD /New%20folder/Report.docx HTTP/1.1"), 200, b"", has_length),
     Step("UNLOCK", head("UNLOCK /New%20folder/Report.docx HTTP/1.1", "Lock-Token: <{token}>"), 204),
     Step("PROPFIND of all properties has those of Windows",
-         head("PROPFIND /New%20folder/Report.docx HTTP/1.1", "Depth: 0", "Content-Length: 0"), 207, b"", has_win32),
+         head("PROPFIND /New%20folder/Report.docx HTTP/1.1", "Depth: 0", "Content-Length: 0"), 207, b"",
+         all_of(has_win32, has_times)),
     Step("MOVE with Overwrite: F to a free name", head("MOVE /New%20folder/Report.docx HTTP/1.1", *MOVE_FIELDS), 201),
     Step("PUT of a second file", head("PUT /New%20folder/b.txt HTTP/1.1", "Content-Length: {length}"), 201, b"b"),
     Step("MOVE with Overwrite: F to a name in use is 412",

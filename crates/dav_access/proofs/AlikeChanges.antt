@@ -3,6 +3,7 @@ use Rattle.std.proofs.Common.{◌≡◌, ◌≢◌, ◌∙◌, ◌==◌, ◌||�
 use Rattle.std.specs.Option.{option_map, ForSome}
 use Rattle.std.specs.Ordering.{eq_by_cmp}
 use Rattle.std.specs.FinMap.{FinMap, get, empty, len, len-empty, same_map}
+use Rattle.dav_resource.specs.declared.property.PropertyPatch.TheVariants.{Set, Remove, Modified, Created}
 use Rattle.dav_key.specs.Key.{Key, key_cmp, key_cmp_total, key_cmp_exact, tied_decides}
 use Rattle.dav_key.specs.Below.{is_at_or_below, put_at}
 use Rattle.dav_resource.specs.Tree as elements
@@ -17,7 +18,7 @@ use Rattle.dav_walks.specs.KeyCall.{standing}
 use Rattle.dav_engine.specs.Opening.{IsFileAt}
 use Rattle.dav_access.specs.Sight.{Sight, ReadsBelow, kind}
 use Rattle.dav_access.proofs.AlikeCalls.{same_none}
-use Rattle.dav_access.proofs.Shadow.{Standing, size, IsSound, IsLike, sound_nothing, like_same, Mirrored, shadow, shadow_standing, shadow_mirrored}
+use Rattle.dav_access.proofs.Shadow.{Standing, size, IsSound, IsLike, sound_nothing, like_same, Mirrored, shadow, shadow_standing, shadow_mirrored, shadow_times}
 
 -- contents to which the same leads from the other contents, and which look like those to which it led
 pub record Follows (sight : Sight) (new : Contents) (Leads : Contents → Type 0) : Type 0 where
@@ -140,10 +141,22 @@ module _ (sight : Sight) (old new other : Contents) (alike : Mirrored sight old 
     patched_there contents = (get contents.tree key, some_properties (patched patches (properties_at contents key)))
 
     pub follows_patched : AreNamed (patched patches (properties_at other key)) → get old.tree key ≢ None → IsPatchedAt key patches old new → Follows sight new (IsPatchedAt key patches other)
-    unfolding patched_there
-    follows_patched named there made = followed (λ after put. record { tree = put.tree ∙ put_at-same other.tree key (get other.tree key) refl; properties = put.properties; limit = put.limit })
-        (follows_put key (patched_there old) (patched_there other) (record { tree = made.tree ∙ sym (put_at-same old.tree key (get old.tree key) refl); properties = made.properties; limit = made.limit }) like)
+    unfolding patched_there follows_put put_there
+    follows_patched named there made =
+        record {
+          after = follows.after;
+          leads = record {
+            tree = follows.leads.tree ∙ put_at-same other.tree key (get other.tree key) refl;
+            properties = follows.leads.properties;
+            times = shadow_times sight new (put_there key (patched_there old) (patched_there other) put like) patches key some made.times;
+            limit = follows.leads.limit;
+          };
+          alike = follows.alike;
+        }
       where
+        put : IsPut key (patched_there old) old new
+        put = record { tree = made.tree ∙ sym (put_at-same old.tree key (get old.tree key) refl); properties = made.properties; limit = made.limit }
+
         unwrapped : (one another : PropertyMap) → Some one ≡ Some another → one ≡ another
         unwrapped one another same = ap (λ o. unwrap_or o one) same
 
@@ -157,13 +170,22 @@ module _ (sight : Sight) (old new other : Contents) (alike : Mirrored sight old 
             by true none = ((λ no. cc), λ x no. absurd cc)
             by false some = ((λ same. not_empty properties some (unwrapped properties empty same)), λ x is. subst AreNamed (unwrapped properties x is) named)
 
+        there_too : get other.tree key ≢ None
+        there_too none = there (same_none (get other.tree key) (get old.tree key) (sym (alike.like key).kinds) none)
+
         like : IsLike (sight.lists key) (sight.reads key) (patched_there old) (patched_there other)
         like = record {
           kinds = (alike.like key).kinds;
           sizes = (alike.like key).sizes;
           read = λ reads i. (((alike.like key).read reads i).0, some_properties (patched patches (unwrap_or ((alike.like key).read reads i).1 empty)));
-          sound = record { bare = λ none. absurd (there (same_none (get other.tree key) (get old.tree key) (sym (alike.like key).kinds) none)); none_empty = (some_sound (patched patches (properties_at other key)) named).0; named = (some_sound (patched patches (properties_at other key)) named).1 };
+          sound = record { bare = λ none. absurd (there_too none); none_empty = (some_sound (patched patches (properties_at other key)) named).0; named = (some_sound (patched patches (properties_at other key)) named).1 };
         }
+
+        follows : Follows sight new (IsPut key (patched_there other) other)
+        follows = follows_put key (patched_there old) (patched_there other) put like
+
+        some : (put_there key (patched_there old) (patched_there other) put like key).0 ≢ None
+        some = subst (λ b. (cond b (patched_there other) (standing other key)).0 ≢ None) (sym ((tied_decides key key).1 refl)) there_too
 
   -- ---- a move
 
@@ -261,9 +283,11 @@ named_after [] properties whole named = named
 named_after (change ∷ patches) properties whole named = named_after patches (patch properties change) (λ other is. whole other (inr is)) (one change (whole change (inl refl)))
   where
     one : (change : Patch) → IsWhole change → AreNamed (patch properties change)
-    one (true, prop) whole = named_at properties (name_of prop) prop.element named (known prop.element whole)
+    one (Set prop) whole = named_at properties (name_of prop) prop.element named (known prop.element whole)
       where
         known : (element : Option elements.Tree) → option_map element_key element ≡ Some (name_of prop) → (e : elements.Tree) → element ≡ Some e → element_key e ≡ name_of prop
         known None is e same = absurd cc
         known (Some element) is e same = cc
-    one (false, prop) whole = named_at properties (name_of prop) None named (λ e no. absurd cc)
+    one (Remove prop) whole = named_at properties (name_of prop) None named (λ e no. absurd cc)
+    one (Modified secs) whole = named
+    one (Created secs) whole = named

@@ -5,8 +5,8 @@ use Rattle.std.specs.Prelude.{map, filter, ℕ}
 use Rattle.std.specs.FinMap.{get, empty, get-empty}
 use Rattle.dav_key.specs.Key.{key_cmp}
 use Rattle.dav_props.specs.Update.{Change, patch_of, patches_of, is_dead}
+use Rattle.dav_props.specs.UpdateLaws.{patch_whole}
 use Rattle.dav_resource.specs.Tree.{Tree}
-use Rattle.dav_props.specs.Property.{prop_named}
 use Rattle.dav_resource.specs.declared.error.FsError.{FsError}
 use Rattle.dav_resource.specs.declared.meta.Meta.{Meta}
 use Rattle.dav_resource.specs.declared.record.Op.TheVariants as ops
@@ -109,13 +109,9 @@ module _ (sight : Sight) (request : DavRequest) (old new : State) (other : Conte
 whole_patches : (changes : List Change) (patch : Patch) → IsIn patch (patches_of changes) → IsWhole patch
 whole_patches changes = among (filter is_dead changes)
   where
-    whole : (set : Bool) (element : Tree) → IsWhole (set, prop_named element (if set then Some element else None))
-    whole true element = refl
-    whole false element = tt
-
     among : (changes : List Change) (patch : Patch) → IsIn patch (map patch_of changes) → IsWhole patch
     among [] patch is = absurd is
-    among (change ∷ changes) patch (inl same) = subst IsWhole same (whole change.set change.element)
+    among (change ∷ changes) patch (inl same) = subst IsWhole same (patch_whole change)
     among (change ∷ changes) patch (inr later) = among changes patch later
 
 -- properties are kept only where something is
@@ -172,8 +168,8 @@ module _ (sight : Sight) (keeps : Bool) (request : DavRequest) (old new other : 
   follows_changes (patch ∷ patches) whole store_answer (inr (inr refused)) = followed (λ after leads. inr (inr leads)) (follows_refused (patch ∷ patches) whole store_answer refused)
 
   module _ (update : Update) where
-    pub follows_proppatch : (answer : Answer) → ProppatchWork keeps request update old records answer new → Follows sight new (λ after. ProppatchWork keeps request update other records answer after)
-    follows_proppatch answer work = followed (λ after stored. record { store_answer = work.store_answer; stored = stored; answered = work.answered })
+    pub follows_proppatch : (profile : Profile) (answer : Answer) → ProppatchWork profile keeps request update old records answer new → Follows sight new (λ after. ProppatchWork profile keeps request update other records answer after)
+    follows_proppatch profile answer work = followed (λ after stored. record { store_answer = work.store_answer; stored = stored; answered = work.answered })
         (follows_changes (patches_of update.1) (whole_patches update.1) work.store_answer work.stored)
 
     pub follows_proppatch_cut : ProppatchCut keeps request update old records new → Follows sight new (λ after. ProppatchCut keeps request update other records after)

@@ -3,6 +3,7 @@ use Rattle.std.specs.Result.{result_ok}
 use Rattle.std.proofs.Common.{◌≡◌, ℕ, Bool, true, false, List, [], ◌∷◌, Option, Some, None, Ok, refl, ap, if◌then◌else◌, subst, sym}
 use Rattle.dav_key.specs.Key.{Key, parent}
 use Rattle.dav_resource.specs.PathText.{PathValue}
+use Rattle.dav_resource.specs.declared.profile.Profile.{Profile}
 use Rattle.dav_resource.specs.declared.meta.Meta.{Meta}
 use Rattle.dav_resource.specs.declared.record.Outcome.{Outcome}
 use Rattle.dav_resource.specs.declared.record.Outcome.TheVariants.{Granted, Barred, Refused}
@@ -185,10 +186,10 @@ module _ (sight : Sight) (request : DavRequest) (state : State) (other : Content
       by true = refl
       by false = alike_look_up sight state.contents other alike request.path.key
 
-  pub alike_propfind : (held : Bodies) → RulesAlike (propfind_rules held request)
-  alike_propfind held = by (is_too_deep request)
+  pub alike_propfind : (profile : Profile) (held : Bodies) → RulesAlike (propfind_rules profile held request)
+  alike_propfind profile held = by (is_too_deep request)
     where
-      by : (deep : Bool) → Alike sight (if deep then Refuses (Ok finite_depth_reply) else sought_rules held request state) (if deep then Refuses (Ok finite_depth_reply) else sought_rules held request (with state other))
+      by : (deep : Bool) → Alike sight (if deep then Refuses (Ok (finite_depth_reply profile)) else sought_rules held request state) (if deep then Refuses (Ok (finite_depth_reply profile)) else sought_rules held request (with state other))
       by true = refl
       by false = alike_first sight (must_find state.contents request.path.key) (must_find other request.path.key) (λ meta. judged (asking_of held request.body (user_agent_of request.headers)) >>= λ asking. Passed (meta, asking)) (alike_must_find sight state.contents other alike request.path.key)
 
@@ -197,8 +198,8 @@ module _ (sight : Sight) (request : DavRequest) (state : State) (other : Content
       alike_then sight (must_find state.contents request.path.key) (must_find other request.path.key) (λ meta. path_rules request state (Some meta)) (λ meta. path_rules request (with state other) (Some meta))
       (alike_must_find sight state.contents other alike request.path.key) (λ meta. alike_path (Some meta))
 
-  pub alike_proppatch : (keeps : Bool) → RulesAlike (proppatch_rules keeps request)
-  alike_proppatch keeps = alike_first sight (found_rules request state) (found_rules request (with state other)) (λ found. judged (update_verdict keeps request.body) >>= unless_some_refused request found) alike_found
+  pub alike_proppatch : (profile : Profile) (keeps : Bool) → RulesAlike (proppatch_rules profile keeps request)
+  alike_proppatch profile keeps = alike_first sight (found_rules request state) (found_rules request (with state other)) (λ found. judged (update_verdict profile keeps request.body) >>= unless_some_refused profile request found) alike_found
 
   alike_to_lock : RulesAlike (look_up_to_lock request)
   alike_to_lock =

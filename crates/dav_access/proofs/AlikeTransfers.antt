@@ -1,6 +1,7 @@
 -- DELETE, COPY and MOVE, over contents that look alike: a caller cannot distinguish them, and what they leave looks alike too.
 use Rattle.std.proofs.Common.{◌≡◌, ◌⊎◌, ◌∙◌, Bool, true, false, List, [], ◌∷◌, Option, Some, None, refl, sym, ap, subst, inl, inr, is_some}
 use Rattle.dav_resource.specs.PathText.{PathValue}
+use Rattle.dav_resource.specs.declared.profile.Profile.{Profile}
 use Rattle.dav_resource.specs.declared.error.FsError.{FsError}
 use Rattle.dav_resource.specs.declared.meta.Meta.{Meta}
 use Rattle.dav_resource.specs.declared.record.Outcome.{Outcome}
@@ -68,8 +69,8 @@ module _ (sight : Sight) where
     target : PathValue
     target = fixed_path request.path (Some meta)
 
-    pub follows_delete : (answer : Answer) → DeleteWork request meta old records answer new → FollowsTo sight new (λ after. DeleteWork request meta (with old other) records answer after)
-    follows_delete answer work = followed (λ after removed. record {
+    pub follows_delete : (profile : Profile) (answer : Answer) → DeleteWork profile request meta old records answer new → FollowsTo sight new (λ after. DeleteWork profile request meta (with old other) records answer after)
+    follows_delete profile answer work = followed (λ after removed. record {
       names = work.names;
       removed = removed;
       locks = same_locks work.names request.path old new other after work.locks;
@@ -139,9 +140,9 @@ module _ (sight : Sight) where
           part = part;
         })) (go then.between new cleared.after cleared.alike then.after (seen_rest sight then.removal then.after records then.cut seen) then.part)
 
-  follows_transfer : (Do : State → List Logged → List Item → State → Type 0) → FollowsDo Do → (source : PathValue) (there : Option Meta) (old new : State) (other : Contents) → Mirrored sight old.contents other
-      → (records : List Logged) (answer : Answer) → AreSeen sight records → TransferWork Do source there old records answer new → FollowsTo sight new (λ after. TransferWork Do source there (with old other) records answer after)
-  follows_transfer Do go source there old new other alike records answer seen work =
+  follows_transfer : (profile : Profile) (Do : State → List Logged → List Item → State → Type 0) → FollowsDo Do → (source : PathValue) (there : Option Meta) (old new : State) (other : Contents) → Mirrored sight old.contents other
+      → (records : List Logged) (answer : Answer) → AreSeen sight records → TransferWork profile Do source there old records answer new → FollowsTo sight new (λ after. TransferWork profile Do source there (with old other) records answer after)
+  follows_transfer profile Do go source there old new other alike records answer seen work =
       followed (λ after done. record { names = work.names; done = done; answered = work.answered }) (go old new other alike records work.names seen work.done)
 
   -- ---- COPY
@@ -155,8 +156,8 @@ module _ (sight : Sight) where
       followed (λ after copied. record { copied = copied; locks = copies.locks }) (follows_copies_part sight old.contents new.contents other alike source destination destination.key depth records seen copies.copied)
 
   module _ (request : DavRequest) (found : Found) where
-    pub follows_copy : (old new : State) (other : Contents) → Mirrored sight old.contents other → (records : List Logged) (answer : Answer) → AreSeen sight records → CopyWork request found old records answer new → FollowsTo sight new (λ after. CopyWork request found (with old other) records answer after)
-    follows_copy = follows_transfer (Copies (depth_or_all request) (source_path request found) found) (follows_replaces (is_some (replaced (depth_or_all request) found.there)) found.destination
+    pub follows_copy : (profile : Profile) (old new : State) (other : Contents) → Mirrored sight old.contents other → (records : List Logged) (answer : Answer) → AreSeen sight records → CopyWork profile request found old records answer new → FollowsTo sight new (λ after. CopyWork profile request found (with old other) records answer after)
+    follows_copy profile = follows_transfer profile (Copies (depth_or_all request) (source_path request found) found) (follows_replaces (is_some (replaced (depth_or_all request) found.there)) found.destination
         (CopiesSource (depth_or_all request) (source_path request found) found.destination) (follows_source (depth_or_all request) (source_path request found) found.destination)) (source_path request found) found.there
 
     pub follows_copy_cut : FollowsCut (CopyCut request found)
@@ -216,8 +217,8 @@ module _ (sight : Sight) where
   follows_moves_part source destination old new other alike records seen (inr moves) = followed (λ after leads. inr (moves.0, leads)) (follows_moves source destination old new other alike records moves.0 seen moves.1)
 
   module _ (request : DavRequest) (found : Found) where
-    pub follows_move : (old new : State) (other : Contents) → Mirrored sight old.contents other → (records : List Logged) (answer : Answer) → AreSeen sight records → MoveWork request found old records answer new → FollowsTo sight new (λ after. MoveWork request found (with old other) records answer after)
-    follows_move = follows_transfer (Moves (source_path request found) found) (follows_replaces (is_some found.there) found.destination (MovesSource (source_path request found) found.destination) (follows_moves (source_path request found) found.destination)) (source_path request found) found.there
+    pub follows_move : (profile : Profile) (old new : State) (other : Contents) → Mirrored sight old.contents other → (records : List Logged) (answer : Answer) → AreSeen sight records → MoveWork profile request found old records answer new → FollowsTo sight new (λ after. MoveWork profile request found (with old other) records answer after)
+    follows_move profile = follows_transfer profile (Moves (source_path request found) found) (follows_replaces (is_some found.there) found.destination (MovesSource (source_path request found) found.destination) (follows_moves (source_path request found) found.destination)) (source_path request found) found.there
 
     pub follows_move_cut : FollowsCut (MoveCut request found)
     follows_move_cut = follows_replaces_part (is_some found.there) found.destination (MovesInPart (source_path request found) found.destination) (follows_moves_part (source_path request found) found.destination)

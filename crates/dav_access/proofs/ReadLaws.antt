@@ -111,15 +111,15 @@ module _ (sight : Sight) (settings : Settings) (lets : (key : Key) → settings.
     follows_step (Some Patch) = write_step true
     follows_step (Some Delete) =
         step_by delete_method (alike_delete sight request old other like)
-        (λ found rest seen work. follows_delete sight request found old new other alike rest answer work)
+        (λ found rest seen work. follows_delete sight request found old new other alike rest settings.profile answer work)
         (λ found rest seen work. follows_delete_cut sight request found old new other alike rest work)
     follows_step (Some Copy) =
         step_by copy_method (alike_transfer sight request old other like false settings)
-        (λ found rest seen work. follows_copy sight request found old new other alike rest answer seen work)
+        (λ found rest seen work. follows_copy sight request found settings.profile old new other alike rest answer seen work)
         (λ found rest seen work. follows_copy_cut sight request found old new other alike rest seen work)
     follows_step (Some Move) =
         step_by move_method (alike_transfer sight request old other like true settings)
-        (λ found rest seen work. follows_move sight request found old new other alike rest answer seen work)
+        (λ found rest seen work. follows_move sight request found settings.profile old new other alike rest answer seen work)
         (λ found rest seen work. follows_move_cut sight request found old new other alike rest seen work)
     follows_step (Some Lock) =
         step_by lock_method (alike_lock sight request old other like settings.facts.bodies)
@@ -130,15 +130,15 @@ module _ (sight : Sight) (settings : Settings) (lets : (key : Key) → settings.
         (λ found rest seen work. follows_unlock sight request old new other alike rest found answer work)
         (λ found rest seen work. unbegun work)
     follows_step (Some PropPatch) =
-        step_by proppatch_method (alike_proppatch sight request old other like settings.facts.keeps_properties)
-        (λ found rest seen work. followed (λ after leads. (leads, work.1)) (follows_proppatch sight settings.facts.keeps_properties request old.contents new.contents other alike rest found answer work.0))
+        step_by proppatch_method (alike_proppatch sight request old other like settings.profile settings.facts.keeps_properties)
+        (λ found rest seen work. followed (λ after leads. (leads, work.1)) (follows_proppatch sight settings.facts.keeps_properties request old.contents new.contents other alike rest found settings.profile answer work.0))
         (λ found rest seen work. followed (λ after leads. (leads, work.1)) (follows_proppatch_cut sight settings.facts.keeps_properties request old.contents new.contents other alike rest found work.0))
     follows_step (Some Options) =
         step_by options_method (alike_options sight request old other like)
         (λ found rest seen work. followed (λ after same. record { none = work.none; answered = work.answered; same = same }) (follows_stay sight old new other alike work.same))
         (λ found rest seen work. unbegun work)
     follows_step (Some PropFind) =
-        step_by propfind_method (alike_propfind sight request old other like settings.facts.bodies)
+        step_by propfind_method (alike_propfind sight request old other like settings.profile settings.facts.bodies)
         (λ found rest seen work. followed (λ after same. record {
           visits = work.visits;
           searches = searches found rest (Some work.visits) seen work.searches;

@@ -1,6 +1,6 @@
 -- Contents that look like others to a caller, made key by key: this project's own choice.
 use Rattle.std.proofs.Common.{◌≡◌, ◌≢◌, ◌∙◌, ℕ, Bool, true, false, cond, ◌||◌, List, [], ◌∷◌, filter_map, Option, Some, None, length, refl, sym, ap, subst, if◌then◌else◌}
-use Rattle.std.specs.Option.{option_map, is_some, ForSome}
+use Rattle.std.specs.Option.{option_map, option_and_then, is_some, ForSome}
 use Rattle.std.specs.List.{list_any, cons_option}
 use Rattle.std.specs.Ordering.{eq_by_cmp}
 use Rattle.std.specs.FinMap.{FinMap, get, keys, empty, from_entries, get-from_entries, contains_key-keys}
@@ -9,6 +9,7 @@ use Rattle.dav_key.specs.Key.{Key, key_cmp, key_cmp_total, tied_decides, parent}
 use Rattle.dav_resource.specs.declared.meta.Meta.{Meta}
 use Rattle.dav_store.specs.Store.{Node, File, Directory, PropertyMap, Contents, AreNamed, MetaFits, IsWellFormed}
 use Rattle.dav_store.specs.Calls.{bytes_at}
+use Rattle.dav_store.specs.PropertyCalls.{Patch, HasTimes}
 use Rattle.dav_walks.specs.KeyCall.{standing}
 use Rattle.dav_walks.specs.Copying.{is_directory_node}
 use Rattle.dav_access.specs.Sight.{Sight, kind, LooksAlike}
@@ -111,24 +112,28 @@ module _ (one other : Option Node) (same : option_map kind other ≡ option_map 
       by (Some (File bytes)) (Some (File others)) None kinds sizes fits = fits
       by (Some (File bytes)) (Some (File others)) (Some meta) kinds sizes fits = (fits.0, fits.1 ∙ sym sizes, fits.2)
 
--- the least that metadata says of a file or a directory
-abbrev pub plain_meta : Node → Meta
-plain_meta node =
+-- the least that metadata says of a file or a directory, with the times of other metadata
+abbrev pub plain_meta : Option Meta → Node → Meta
+plain_meta real node =
     record {
       dir = is_directory_node (Some node);
       len = size (Some node);
-      modified = None;
-      created = None;
+      modified = option_and_then (λ (m : Meta). m.modified) real;
+      created = option_and_then (λ (m : Meta). m.created) real;
       accessed = None;
       status_changed = None;
       executable = None;
       etag = None;
     }
 
-plain_fits : (node : Option Node) → MetaFits node (option_map plain_meta node)
-plain_fits None = refl
-plain_fits (Some Directory) = (refl, λ x no. absurd cc)
-plain_fits (Some (File bytes)) = (refl, refl, λ x no. absurd cc)
+plain_fits : (real : Option Meta) (node : Option Node) → MetaFits node (option_map (plain_meta real) node)
+plain_fits real None = refl
+plain_fits real (Some Directory) = (refl, λ x no. absurd cc)
+plain_fits real (Some (File bytes)) = (refl, refl, λ x no. absurd cc)
+
+plain_times : (patches : List Patch) (real : Option Meta) (node : Option Node) → node ≢ None → HasTimes patches real → HasTimes patches (option_map (plain_meta real) node)
+plain_times patches real None some times = absurd (some refl)
+plain_times patches real (Some node) some times = record { modified = times.modified; created = times.created }
 
 -- ---- contents that look alike
 
@@ -177,14 +182,15 @@ module _ (sight : Sight) (one other : Contents) where
       metas = λ key. fits_there lawful key (sight.lists key) refl;
     }
 
--- Contents with this at each key, made from others that look alike: where a caller may not list it, the metadata is the least that fits.
+-- Contents with this at each key, made from others that look alike: where a caller may not list it, the metadata is the least that fits, with the same
+-- times.
 module _ (sight : Sight) (one : Contents) (there : Key → Standing) where
   abbrev pub shadow : Contents
   shadow =
       record {
         tree = tabulate (λ key. (there key).0) (keys one.tree);
         properties = tabulate (λ key. (there key).1) (keys one.tree);
-        metas = λ key. if sight.lists key then one.metas key else option_map plain_meta (there key).0;
+        metas = λ key. if sight.lists key then one.metas key else option_map (plain_meta (one.metas key)) (there key).0;
         quota = one.quota;
       }
 
@@ -201,7 +207,15 @@ module _ (sight : Sight) (one : Contents) (there : Key → Standing) where
     pub shadow_mirrored : Mirrored sight one shadow
     shadow_mirrored = record {
       like = λ key. subst (IsLike (sight.lists key) (sight.reads key) (standing one key)) (sym (shadow_standing key)) (like key);
-      metas = λ key lists. ap (λ b. if b then one.metas key else option_map plain_meta (there key).0) lists;
-      fits = λ key hidden. subst (λ n. MetaFits n (shadow.metas key)) (sym (nodes key)) (subst (λ b. MetaFits (there key).0 (if b then one.metas key else option_map plain_meta (there key).0)) (sym hidden) (plain_fits (there key).0));
+      metas = λ key lists. ap (λ b. if b then one.metas key else option_map (plain_meta (one.metas key)) (there key).0) lists;
+      fits = λ key hidden. subst (λ n. MetaFits n (shadow.metas key)) (sym (nodes key)) (subst (λ b. MetaFits (there key).0 (if b then one.metas key else option_map (plain_meta (one.metas key)) (there key).0)) (sym hidden) (plain_fits (one.metas key) (there key).0));
       quota = refl;
     }
+
+  -- where something is, the metadata has the same times
+  pub shadow_times : (patches : List Patch) (key : Key) → (there key).0 ≢ None → HasTimes patches (one.metas key) → HasTimes patches (shadow.metas key)
+  shadow_times patches key some times =
+      elim (sight.lists key) as (λ lists. HasTimes patches (if lists then one.metas key else option_map (plain_meta (one.metas key)) (there key).0)) [
+        | true ↦ times
+        | false ↦ plain_times patches (one.metas key) (there key).0 some times
+      ]

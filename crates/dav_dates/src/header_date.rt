@@ -3,7 +3,7 @@ ghost use Rattle.std.specs.Prelude.{◌≡◌, ◌≤◌, IfOk, IfSome, string_b
 ghost use Rattle.http_header.specs.FieldValue.{IsFieldValue, plain_value};
 ghost use Rattle.httpdate.specs.Date.{unix_secs};
 ghost use Rattle.dav_dates.specs.Moment.{last_shown, shown_moment};
-ghost use Rattle.dav_dates.specs.HttpDate.{IsHttpDate, http_date_text};
+ghost use Rattle.dav_dates.specs.HttpDate.{IsHttpDate, http_date_text, date_in};
 
 use bytes::Bytes;
 use http_header::HeaderValue;
@@ -44,6 +44,16 @@ pub fn http_date_value(alloc: Global, secs: u64) -> Result<HeaderValue, AllocErr
 {
     let text = Bytes::copy_from_slice(alloc, &date_of(secs).to_bytes())?;
     Ok(HeaderValue::from_known_valid(text))
+}
+
+/// Returns the time of an HTTP date in one of its three forms, in seconds since 1970 (RFC 9110, section 5.6.7). Returns
+/// `None` for any other text, and for a time after `LAST_SHOWN`.
+pub fn read_http_date(text: &str) -> Option<u64>
+    ensures exact { result ≡ date_in text.now }
+    ensures shown { IfSome result (λ secs. secs ≤ last_shown) }
+{
+    let date = HttpDate::parse_ascii(text.as_bytes()).ok()?;
+    shown_moment(Some(date.unix_secs()))
 }
 
 /// Returns the date of a time in seconds since 1970.

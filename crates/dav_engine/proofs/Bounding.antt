@@ -262,7 +262,7 @@ copy_keeps_outside settings request found old new head records answer lawful pas
     away : is_at_or_below key found.destination.key ≡ false
     away = outside_destination false settings request found.destination key (copy_passed settings request old head found passed).asked outside
 
-    by_end : CopyWork request found old records answer new ⊎ ((answer ≡ Err Memory) × CopyCut request found old records new) → standing new.contents key ≡ standing old.contents key
+    by_end : CopyWork settings.profile request found old records answer new ⊎ ((answer ≡ Err Memory) × CopyCut request found old records new) → standing new.contents key ≡ standing old.contents key
     by_end (inl work) = copied_outside (depth_or_all request) (fixed_path request.path (Some found.meta)) found old new records key away work.names work.done
     by_end (inr cut) = copied_part_outside (depth_or_all request) (fixed_path request.path (Some found.meta)) found old new records key away cut.1
 
@@ -278,7 +278,7 @@ move_keeps_outside settings request found old new head records answer lawful pas
     away : (is_at_or_below key request.path.key ≡ false) × (is_at_or_below key found.destination.key ≡ false)
     away = (both.0, outside_destination true settings request found.destination key (move_passed settings request old head found passed).asked both.1)
 
-    by_end : MoveWork request found old records answer new ⊎ ((answer ≡ Err Memory) × MoveCut request found old records new) → standing new.contents key ≡ standing old.contents key
+    by_end : MoveWork settings.profile request found old records answer new ⊎ ((answer ≡ Err Memory) × MoveCut request found old records new) → standing new.contents key ≡ standing old.contents key
     by_end (inl work) = moved_outside (fixed_path request.path (Some found.meta)) found old new records key away work.names work.done
     by_end (inr cut) = moved_part_outside (fixed_path request.path (Some found.meta)) found old new records key away cut.1
 
@@ -298,7 +298,7 @@ copy_keeps_unrecorded settings request found old new head records answer lawful 
         copy_unrecorded (source_path request found) found.destination mid.contents new.contents key (depth_or_all request) found.destination.key rest
         (whole_copy_in_part (depth_or_all request) (source_path request found) found.destination found.destination.key mid.contents new.contents rest names w.copied) left
 
-    by_end : CopyWork request found old records answer new ⊎ ((answer ≡ Err Memory) × CopyCut request found old records new) → standing new.contents key ≡ standing old.contents key
+    by_end : CopyWork settings.profile request found old records answer new ⊎ ((answer ≡ Err Memory) × CopyCut request found old records new) → standing new.contents key ≡ standing old.contents key
     by_end (inl work) =
         replaced_unrecorded (is_some (replaced (depth_or_all request) found.there)) found.destination old new records key lawful.contents none
         (CopiesSource (depth_or_all request) (source_path request found) found.destination) work.names work.done (whole work.names)
@@ -319,7 +319,7 @@ move_keeps_unrecorded settings request found old new head records answer lawful 
     part mid rest (inl nothing) left = same_state key mid new nothing.1
     part mid rest (inr (names, w)) left = whole names mid rest w left
 
-    by_end : MoveWork request found old records answer new ⊎ ((answer ≡ Err Memory) × MoveCut request found old records new) → standing new.contents key ≡ standing old.contents key
+    by_end : MoveWork settings.profile request found old records answer new ⊎ ((answer ≡ Err Memory) × MoveCut request found old records new) → standing new.contents key ≡ standing old.contents key
     by_end (inl work) =
         replaced_unrecorded (is_some found.there) found.destination old new records key lawful.contents none (MovesSource (source_path request found) found.destination) work.names work.done (whole work.names)
     by_end (inr cut) = replaced_part_unrecorded (is_some found.there) found.destination old new records key lawful.contents none (MovesInPart (source_path request found) found.destination) cut.1 part

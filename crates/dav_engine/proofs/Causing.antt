@@ -221,21 +221,21 @@ module _ {A : Type 0} {answer : Answer} {e : DavError} where
   no_error reply recorded is = absurd (let both : Ok reply ≡ Err e = sym recorded ∙ is in cc)
 
   -- nor is an answer with items
-  no_items : (path : PathValue) (item : Item) (items : List Item) → answer ≡ multi_answer path (item ∷ items) → answer ≡ Err e → A
-  no_items path item [] recorded is = by_key (is_same_key path.key item.0.key) refl
+  no_items : (profile : Profile) (path : PathValue) (item : Item) (items : List Item) → answer ≡ multi_answer profile path (item ∷ items) → answer ≡ Err e → A
+  no_items profile path item [] recorded is = by_key (is_same_key path.key item.0.key) refl
     where
       by_key : (b : Bool) → is_same_key path.key item.0.key ≡ b → A
       by_key true same = no_error _ (rw same at recorded) is
       by_key false same = no_error _ (rw same at recorded) is
-  no_items path item (next ∷ items) recorded is = no_error _ recorded is
+  no_items profile path item (next ∷ items) recorded is = no_error _ recorded is
 
-  deleted_no_error : (path : PathValue) (names : List Item) → answer ≡ multi_answer path (reported_items path names) → answer ≡ Err e → A
-  deleted_no_error path [] recorded is = no_items path _ [] recorded is
-  deleted_no_error path (item ∷ names) recorded is = no_items path item names recorded is
+  deleted_no_error : (profile : Profile) (path : PathValue) (names : List Item) → answer ≡ multi_answer profile path (reported_items path names) → answer ≡ Err e → A
+  deleted_no_error profile path [] recorded is = no_items profile path _ [] recorded is
+  deleted_no_error profile path (item ∷ names) recorded is = no_items profile path item names recorded is
 
-  transferred_no_error : (source : PathValue) (there : Option Meta) (names : List Item) → answer ≡ multi_answer source (transferred_items source there names) → answer ≡ Err e → A
-  transferred_no_error source there [] recorded is = no_items source _ [] recorded is
-  transferred_no_error source there (item ∷ names) recorded is = no_items source item names recorded is
+  transferred_no_error : (profile : Profile) (source : PathValue) (there : Option Meta) (names : List Item) → answer ≡ multi_answer profile source (transferred_items source there names) → answer ≡ Err e → A
+  transferred_no_error profile source there [] recorded is = no_items profile source _ [] recorded is
+  transferred_no_error profile source there (item ∷ names) recorded is = no_items profile source item names recorded is
 
 -- ---- a method that is not served
 
@@ -333,19 +333,19 @@ pub causes_delete : Causes (Some Delete) delete_method
 causes_delete settings request old new records answer lawful (Refused h) e is = caused_same (looks_led _ _ records (delete_looks request old) h.head) h.same
 causes_delete settings request old new records answer lawful (CutShort h) e is = caused_memory h.answered is
 causes_delete settings request old new records answer lawful (CutInWork h) e is = caused_memory h.answered is
-causes_delete settings request old new records answer lawful (Done h) e is = deleted_no_error _ h.work.names h.work.answered is
+causes_delete settings request old new records answer lawful (Done h) e is = deleted_no_error settings.profile _ h.work.names h.work.answered is
 
 pub causes_copy : Causes (Some Copy) copy_method
 causes_copy settings request old new records answer lawful (Refused h) e is = caused_same (looks_led _ _ records (transfer_looks request old false settings) h.head) h.same
 causes_copy settings request old new records answer lawful (CutShort h) e is = caused_memory h.answered is
 causes_copy settings request old new records answer lawful (CutInWork h) e is = caused_memory h.answered is
-causes_copy settings request old new records answer lawful (Done h) e is = transferred_no_error _ _ h.work.names h.work.answered is
+causes_copy settings request old new records answer lawful (Done h) e is = transferred_no_error settings.profile _ _ h.work.names h.work.answered is
 
 pub causes_move : Causes (Some Move) move_method
 causes_move settings request old new records answer lawful (Refused h) e is = caused_same (looks_led _ _ records (transfer_looks request old true settings) h.head) h.same
 causes_move settings request old new records answer lawful (CutShort h) e is = caused_memory h.answered is
 causes_move settings request old new records answer lawful (CutInWork h) e is = caused_memory h.answered is
-causes_move settings request old new records answer lawful (Done h) e is = transferred_no_error _ _ h.work.names h.work.answered is
+causes_move settings request old new records answer lawful (Done h) e is = transferred_no_error settings.profile _ _ h.work.names h.work.answered is
 
 -- ---- LOCK and UNLOCK
 
@@ -434,7 +434,7 @@ patch_ends keeps request (patch ∷ patches) old records recorded new (inr (inr 
 )
 
 pub causes_proppatch : Causes (Some PropPatch) proppatch_method
-causes_proppatch settings request old new records answer lawful (Refused h) e is = caused_same (looks_led _ _ records (proppatch_looks request old settings.facts.keeps_properties) h.head) h.same
+causes_proppatch settings request old new records answer lawful (Refused h) e is = caused_same (looks_led _ _ records (proppatch_looks request old settings.profile settings.facts.keeps_properties) h.head) h.same
 causes_proppatch settings request old new records answer lawful (CutShort h) e is = caused_memory h.answered is
 causes_proppatch settings request old new records answer lawful (CutInWork h) e is = caused_memory h.answered is
 causes_proppatch settings request old new records answer lawful (Done h) e is = by_reported h.work.0.store_answer refl
@@ -446,7 +446,7 @@ causes_proppatch settings request old new records answer lawful (Done h) e is = 
         let recorded : answer ≡ Err (from_fs cause) = rw same at h.work.0.answered in
         let both : Err (from_fs cause) ≡ Err e = sym recorded ∙ is in
         let by : from_fs cause ≡ e = cc in
-        caused_by_call h.head h.rest h.cut (looks_led _ _ h.head (proppatch_looks request old settings.facts.keeps_properties) h.passed)
+        caused_by_call h.head h.rest h.cut (looks_led _ _ h.head (proppatch_looks request old settings.profile settings.facts.keeps_properties) h.passed)
         (subst (λ d. EndsFailing (Some PropPatch) request h.rest d) by ends.0) (λ none. ends.1) (inl h.work.1)
 
 pub causes_options : Causes (Some Options) options_method
@@ -456,7 +456,7 @@ causes_options settings request old new records answer lawful (CutInWork h) e is
 causes_options settings request old new records answer lawful (Done h) e is = no_error _ h.work.answered is
 
 pub causes_propfind : Causes (Some PropFind) propfind_method
-causes_propfind settings request old new records answer lawful (Refused h) e is = caused_same (looks_led _ _ records (propfind_looks request old settings.facts.bodies) h.head) h.same
+causes_propfind settings request old new records answer lawful (Refused h) e is = caused_same (looks_led _ _ records (propfind_looks request old settings.profile settings.facts.bodies) h.head) h.same
 causes_propfind settings request old new records answer lawful (CutShort h) e is = caused_memory h.answered is
 causes_propfind settings request old new records answer lawful (CutInWork h) e is = caused_memory h.answered is
 causes_propfind settings request old new records answer lawful (Done h) e is = no_error _ h.work.answered is

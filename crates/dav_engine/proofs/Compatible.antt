@@ -138,18 +138,18 @@ module _ (there : Bool) (destination : PathValue) (old new : State) (records : L
   replaces_in_part Part (inl part) further h = cleared_in_part there destination old new records part h
   replaces_in_part Part (inr more) further h = further more.between more.after more.part (cleared there destination old more.between more.removal [] more.cleared h)
 
-module _ (request : DavRequest) (found : Transfer) (old new : State) (records : List Logged) where
+module _ (profile : Profile) (request : DavRequest) (found : Transfer) (old new : State) (records : List Logged) where
   abbrev source : PathValue
   source = source_path request found
 
   abbrev depth : Depth
   depth = depth_or_all request
 
-  copied : (answer : Answer) → CopyWork request found old records answer new ⊎ ((answer ≡ Err Memory) × CopyCut request found old records new) → IsCompatible old → IsCompatible new
+  copied : (answer : Answer) → CopyWork profile request found old records answer new ⊎ ((answer ≡ Err Memory) × CopyCut request found old records new) → IsCompatible old → IsCompatible new
   copied answer (inl work) = replaces (is_some (replaced depth found.there)) found.destination old new records (CopiesSource depth source found.destination) work.names work.done (λ mid rest follows. stay mid new follows.locks)
   copied answer (inr cut) = replaces_in_part (is_some (replaced depth found.there)) found.destination old new records (CopiesSourceInPart depth source found.destination) cut.1 (λ mid rest part. stay mid new part.locks)
 
-  moved : (answer : Answer) → MoveWork request found old records answer new ⊎ ((answer ≡ Err Memory) × MoveCut request found old records new) → IsCompatible old → IsCompatible new
+  moved : (answer : Answer) → MoveWork profile request found old records answer new ⊎ ((answer ≡ Err Memory) × MoveCut request found old records new) → IsCompatible old → IsCompatible new
   moved answer (inl work) = replaces (is_some found.there) found.destination old new records (MovesSource source found.destination) work.names work.done (λ mid rest follows. by_names work.names source mid new follows.locks)
   moved answer (inr cut) = replaces_in_part (is_some found.there) found.destination old new records (MovesInPart source found.destination) cut.1 by_part
     where
@@ -158,10 +158,10 @@ module _ (request : DavRequest) (found : Transfer) (old new : State) (records : 
       by_part mid rest (inr (names, moves)) = by_names names source mid new moves.locks
 
 pub keeps_copy : Keeps copy_method
-keeps_copy settings request found old new records answer = copied request found old new records answer
+keeps_copy settings request found old new records answer = copied settings.profile request found old new records answer
 
 pub keeps_move : Keeps move_method
-keeps_move settings request found old new records answer = moved request found old new records answer
+keeps_move settings request found old new records answer = moved settings.profile request found old new records answer
 
 pub keeps_lock : Keeps lock_method
 keeps_lock settings request found old new records answer (inl work) h = locked settings.profile request found old new records answer (is_refresh settings.facts.bodies request.body) work h

@@ -118,14 +118,14 @@ module _ (settings : Settings) (request : DavRequest) (old : State) (answer : An
     abbrev depth : Depth
     depth = depth_or_all request
 
-    work_tells : CopyWork request found old records answer new → CopyTells
+    work_tells : CopyWork settings.profile request found old records answer new → CopyTells
     work_tells work = by_names work.names work.done work.answered
       where
         asked_so : (verdict : Result (Unit {0}) DavError) → where_reached verdict settings request ≡ Ok found.destination → destination_of request.headers settings.prefix ≡ Ok found.destination
         asked_so (Ok reached) is = is
         asked_so (Err e) is = absurd cc
 
-        by_names : (names : List Item) → Copies depth path found old records names new → answer ≡ multi_answer path (transferred_items path found.there names) → CopyTells
+        by_names : (names : List Item) → Copies depth path found old records names new → answer ≡ multi_answer settings.profile path (transferred_items path found.there names) → CopyTells
         by_names [] copies answered recorded deep =
             let whole = copies_whole depth deep path found old new records formed (rules.may formed) copies in
             record {
@@ -137,7 +137,7 @@ module _ (settings : Settings) (request : DavRequest) (old : State) (answer : An
             }
         by_names (item ∷ names) copies answered recorded deep =
             let refusals : AreRefusals (item ∷ names) = copies_refused depth path found old new records (item ∷ names) copies in
-            absurd (let no : false ≡ true = sym (ap is_transferred answered ∙ named_untold path item names refusals) ∙ recorded in cc)
+            absurd (let no : false ≡ true = sym (ap is_transferred answered ∙ named_untold settings.profile path item names refusals) ∙ recorded in cc)
 
   step_tells : IsWellFormed old.contents → (records : List Logged) → StepBy copy_method settings request old records answer new → CopyTells
   step_tells formed records (ByRules h) =

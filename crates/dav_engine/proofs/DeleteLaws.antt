@@ -4,6 +4,7 @@ use Rattle.std.specs.FinMap.{get}
 use Rattle.dav_key.specs.Key.{Key, is_same_key, same_key_decides}
 use Rattle.dav_resource.specs.PathText.{PathValue}
 use Rattle.dav_resource.specs.Errors.{fs_status, dav_status, from_fs}
+use Rattle.dav_resource.specs.declared.profile.Profile.{Profile}
 use Rattle.dav_resource.specs.declared.error.DavError.{DavError}
 use Rattle.dav_resource.specs.declared.error.DavError.TheVariants.{Memory, Status}
 use Rattle.dav_resource.specs.declared.error.FsError.{FsError}
@@ -65,17 +66,17 @@ memory_tells : (answer : Answer) → answer ≡ Err Memory → IsNoContent answe
 memory_tells answer memory recorded = let is : 507 ≡ 204 = subst IsNoContent memory recorded in omega (arith, is)
 
 -- a reply that names something is no 204
-named_tells : (path : PathValue) (item : Item) (names : List Item) → item.1 ≢ 204 → IsNoContent (multi_answer path (item ∷ names)) → ⊥
-named_tells path item [] other = by_key (is_same_key path.key item.0.key)
+named_tells : (profile : Profile) (path : PathValue) (item : Item) (names : List Item) → item.1 ≢ 204 → IsNoContent (multi_answer profile path (item ∷ names)) → ⊥
+named_tells profile path item [] other = by_key (is_same_key path.key item.0.key)
   where
-    by_key : (b : Bool) → IsNoContent (if b then Ok (bare_reply item.1 []) else Ok (multistatus_reply (item ∷ []))) → ⊥
+    by_key : (b : Bool) → IsNoContent (if b then Ok (bare_reply item.1 []) else Ok (multistatus_reply profile (item ∷ []))) → ⊥
     by_key true recorded = other recorded
     by_key false recorded = omega (arith, recorded)
-named_tells path item (next ∷ names) other = λ recorded. omega (arith, recorded)
+named_tells profile path item (next ∷ names) other = λ recorded. omega (arith, recorded)
 
 -- where nothing is named it is one
-clean_tells : (path : PathValue) → IsNoContent (multi_answer path ((path, 204) ∷ []))
-clean_tells path = subst (λ b. IsNoContent (if b then Ok (bare_reply 204 []) else Ok (multistatus_reply ((path, 204) ∷ [])))) (sym ((same_key_decides path.key path.key).1 refl)) refl
+clean_tells : (profile : Profile) (path : PathValue) → IsNoContent (multi_answer profile path ((path, 204) ∷ []))
+clean_tells profile path = subst (λ b. IsNoContent (if b then Ok (bare_reply 204 []) else Ok (multistatus_reply profile ((path, 204) ∷ [])))) (sym ((same_key_decides path.key path.key).1 refl)) refl
 
 -- ---- where nothing is named, nothing is left
 
@@ -149,7 +150,7 @@ unlocked request old new (inl dropped) reliable = λ locks is. by_system old.loc
 abbrev IsSettled : DavRequest → State → Answer → State → Type 0
 IsSettled request old answer new = (LocksStay old new × (IsNoContent answer → ⊥)) ⊎ IsGoneWithLocks request old answer new
 
-module _ (request : DavRequest) (old : State) (formed : IsWellFormed old.contents) (answer : Answer) (new : State) where
+module _ (profile : Profile) (request : DavRequest) (old : State) (formed : IsWellFormed old.contents) (answer : Answer) (new : State) where
   module _ (meta : Meta) (records : List Logged) where
     abbrev path : PathValue
     path = fixed_path request.path (Some meta)
@@ -163,14 +164,14 @@ module _ (request : DavRequest) (old : State) (formed : IsWellFormed old.content
         let tail = at_or_below-tail request.path.key key below in
         subst (λ k. get new.contents.tree k ≡ None) (sym tail.1) (removed_below path old.contents new.contents formed (depth_or_all request) records removed tail.0)
 
-    work_settles : DeleteWork request meta old records answer new → IsSettled request old answer new
+    work_settles : DeleteWork profile request meta old records answer new → IsSettled request old answer new
     work_settles work = by_names work.names work.removed work.locks work.answered
       where
-        by_names : (names : List Item) → RemovesAs names → LeavesLocks names request.path old new → answer ≡ multi_answer path (reported_items path names) → IsSettled request old answer new
-        by_names [] removed dropped answered = inr (record { answered = inl (subst IsNoContent (sym answered) (clean_tells path)); emptied = emptied removed; locks = dropped })
+        by_names : (names : List Item) → RemovesAs names → LeavesLocks names request.path old new → answer ≡ multi_answer profile path (reported_items path names) → IsSettled request old answer new
+        by_names [] removed dropped answered = inr (record { answered = inl (subst IsNoContent (sym answered) (clean_tells profile path)); emptied = emptied removed; locks = dropped })
         by_names (item ∷ names) removed same answered =
             let refusal = names_refused (depth_or_all request) path old.contents new.contents records (item ∷ names) removed item (inl refl) in
-            inl (same, λ recorded. named_tells path item names (λ is. refusal_tells refusal.0 (refusal.1 ∙ is)) (subst IsNoContent answered recorded))
+            inl (same, λ recorded. named_tells profile path item names (λ is. refusal_tells refusal.0 (refusal.1 ∙ is)) (subst IsNoContent answered recorded))
 
     cut_settles : answer ≡ Err Memory → DeleteCut request meta old records new → IsSettled request old answer new
     cut_settles memory cut = by_locks cut.locks
@@ -179,14 +180,15 @@ module _ (request : DavRequest) (old : State) (formed : IsWellFormed old.content
         by_locks (inl same) = inl (same, memory_tells answer memory)
         by_locks (inr gone) = inr (record { answered = inr memory; emptied = emptied gone.0; locks = gone.1 })
 
-  step_settles : (settings : Settings) (records : List Logged) → StepBy delete_method settings request old records answer new → IsSettled request old answer new
-  step_settles settings records (Refused h) =
-      let refused = errs_led Kind (delete_rules request old) records answer (errs_delete request old) h.head in
-      inl (ap (λ (s : State). s.locks) h.same, λ recorded. refused.2 (subst IsNoContent refused.1 recorded))
-  step_settles settings records (Done h) = work_settles h.found h.rest h.work
-  step_settles settings records (CutShort h) = inl (ap (λ (s : State). s.locks) h.same, memory_tells answer h.answered)
-  step_settles settings records (CutInWork h) = cut_settles h.found h.rest h.answered h.work
+step_settles : (settings : Settings) (request : DavRequest) (old : State) → IsWellFormed old.contents → (answer : Answer) (new : State) (records : List Logged) → StepBy delete_method settings request old records answer new → IsSettled request old answer new
+step_settles settings request old formed answer new records (Refused h) =
+    let refused = errs_led Kind (delete_rules request old) records answer (errs_delete request old) h.head in
+    inl (ap (λ (s : State). s.locks) h.same, λ recorded. refused.2 (subst IsNoContent refused.1 recorded))
+step_settles settings request old formed answer new records (Done h) = work_settles settings.profile request old formed answer new h.found h.rest h.work
+step_settles settings request old formed answer new records (CutShort h) = inl (ap (λ (s : State). s.locks) h.same, memory_tells answer h.answered)
+step_settles settings request old formed answer new records (CutInWork h) = cut_settles settings.profile request old formed answer new h.found h.rest h.answered h.work
 
+module _ (request : DavRequest) (old : State) (answer : Answer) (new : State) where
   settled_empties : IsSettled request old answer new → EmptiesPath request old answer new
   settled_empties (inl kept) recorded = absurd (kept.1 recorded)
   settled_empties (inr gone) recorded = (gone.emptied, unlocked request old new gone.locks)
@@ -198,5 +200,5 @@ module _ (request : DavRequest) (old : State) (formed : IsWellFormed old.content
 pub delete_tells : {settings : Settings} {request : DavRequest} {old new : State} {records : List Logged} {answer : Answer} → IsLawfulState old → StepBy delete_method settings request old records answer new
     → EmptiesPath request old answer new × KeepsLocksUnlessGone request old answer new
 delete_tells {settings} {request} {old} {new} {records} {answer} lawful step =
-    let settled = step_settles request old lawful.contents answer new settings records step in
-    (settled_empties request old lawful.contents answer new settled, settled_keeps request old lawful.contents answer new settled)
+    let settled = step_settles settings request old lawful.contents answer new records step in
+    (settled_empties request old answer new settled, settled_keeps request old answer new settled)

@@ -7,6 +7,7 @@ use Rattle.dav_resource.specs.Gives.{GivesBy}
 use Rattle.dav_resource.specs.Errors.{from_fs}
 use Rattle.dav_key.specs.Key.{Key}
 use Rattle.dav_resource.specs.PathText.{PathValue}
+use Rattle.dav_resource.specs.declared.profile.Profile.{Profile}
 use Rattle.dav_resource.specs.declared.error.DavError.{DavError}
 use Rattle.dav_resource.specs.declared.error.DavError.TheVariants.{Memory, Status}
 use Rattle.dav_resource.specs.declared.error.FsError.{FsError}
@@ -125,7 +126,7 @@ named_told : (names : List Item) (path : PathValue) → names ≢ [] → reporte
 named_told [] path some = absurd (some refl)
 named_told (item ∷ names) path some = refl
 
-module _ (request : DavRequest) (meta : Meta) where
+module _ (profile : Profile) (request : DavRequest) (meta : Meta) where
   abbrev depth : Depth
   depth = depth_or_all request
 
@@ -133,7 +134,7 @@ module _ (request : DavRequest) (meta : Meta) where
   path = fixed_path request.path (Some meta)
 
   abbrev Deletes : Seen → Answer → Seen → Type 0
-  Deletes = Performs (DeleteWork request meta) (DeleteCut request meta)
+  Deletes = Performs (DeleteWork profile request meta) (DeleteCut request meta)
 
   -- nothing was begun
   pub works_unbegun : (seen : Seen) (result : Result (Response Body) DavError) → answer_of result ≡ Err Memory → Deletes seen (answer_of result) seen
@@ -157,7 +158,7 @@ module _ (request : DavRequest) (meta : Meta) where
       Same = ◌≡◌ {A = Answer} (Err Memory) (Err Memory)
 
       Ended : Type 0
-      Ended = DeleteWork request meta (state_of old) h.records (Err Memory) (state_of new) ⊎ (Same × DeleteCut request meta (state_of old) h.records (state_of new))
+      Ended = DeleteWork profile request meta (state_of old) h.records (Err Memory) (state_of new) ⊎ (Same × DeleteCut request meta (state_of old) h.records (state_of new))
 
       cut : RemovesInPart depth path old.store.contents new.store.contents h.records → DeleteCut request meta (state_of old) h.records (state_of new)
       cut part = record { removed = part; locks = inl (same_locks old new locks) }
@@ -194,29 +195,29 @@ module _ (request : DavRequest) (meta : Meta) where
       done = inr (is, record { removed = whole_in_part depth path _ _ _ [] all_gone.0; locks = inr (all_gone.0, let_go) });
     }
 
-    pub works_gone : (items : List Item) (result : Result (Response Body) DavError) → items ≡ has ++ (path, 204) ∷ [] → GivesBy reply_of result (multi_answer path items) → Deletes old (answer_of result) new
+    pub works_gone : (items : List Item) (result : Result (Response Body) DavError) → items ≡ has ++ (path, 204) ∷ [] → GivesBy reply_of result (multi_answer profile path items) → Deletes old (answer_of result) new
     works_gone items result added given = by_answer (answered result _ given)
       where
-        by_answer : (answer_of result ≡ multi_answer path items) ⊎ (answer_of result ≡ Err Memory) → Deletes old (answer_of result) new
+        by_answer : (answer_of result ≡ multi_answer profile path items) ⊎ (answer_of result ≡ Err Memory) → Deletes old (answer_of result) new
         by_answer (inr memory) = works_untold result memory
         by_answer (inl is) = record {
           records = h.records;
           recorded = told_so;
           fixed = fixed_so;
-          done = inl (record { names = []; removed = all_gone.0; locks = let_go; answered = is ∙ ap (multi_answer path) (added ∙ ap (λ l. l ++ (path, 204) ∷ []) all_gone.1) });
+          done = inl (record { names = []; removed = all_gone.0; locks = let_go; answered = is ∙ ap (multi_answer profile path) (added ∙ ap (λ l. l ++ (path, 204) ∷ []) all_gone.1) });
         }
 
   -- something is named
   pub works_named : (e : DavError) (old new : Seen) (has : List Item) (result : Result (Response Body) DavError) → e ≢ Memory → Removal depth path old.store new.store [] has (Err e) → new.locks ≡ old.locks
-      → GivesBy reply_of result (multi_answer path has) → Deletes old (answer_of result) new
+      → GivesBy reply_of result (multi_answer profile path has) → Deletes old (answer_of result) new
   works_named e old new has result not_memory h locks given = by_end h.done
     where
-      whole_answer : (names : List Item) → has ≡ names → Removes depth path old.store.contents new.store.contents h.records names → names ≢ [] → (answer_of result ≡ multi_answer path has) ⊎ (answer_of result ≡ Err Memory) → Deletes old (answer_of result) new
+      whole_answer : (names : List Item) → has ≡ names → Removes depth path old.store.contents new.store.contents h.records names → names ≢ [] → (answer_of result ≡ multi_answer profile path has) ⊎ (answer_of result ≡ Err Memory) → Deletes old (answer_of result) new
       whole_answer names is removed some (inl recorded) = record {
         records = h.records;
         recorded = h.recorded;
         fixed = same_facts old new h.fixed locks;
-        done = inl (record { names = names; removed = removed; locks = named_locks names request.path _ _ some (same_locks old new locks); answered = recorded ∙ ap (multi_answer path) (is ∙ sym (named_told names path some)) });
+        done = inl (record { names = names; removed = removed; locks = named_locks names request.path _ _ some (same_locks old new locks); answered = recorded ∙ ap (multi_answer profile path) (is ∙ sym (named_told names path some)) });
       }
       whole_answer names is removed some (inr memory) = record {
         records = h.records;

@@ -201,7 +201,7 @@ guards_move settings request found old new head records answer passed done = by_
     both : ((key : Key) → (is_at_or_below key request.path.key ≡ false) × (is_at_or_below key found.destination.key ≡ false) → standing new.contents key ≡ standing old.contents key) → IsGuarded (Some Move) request old new
     both = guarded_both (Some Move) request old new request.path.key found.destination.key rules.permitted.source rules.permitted.destination
 
-    by_end : MoveWork request found old records answer new ⊎ ((answer ≡ Err Memory) × MoveCut request found old records new) → IsGuarded (Some Move) request old new
+    by_end : MoveWork settings.profile request found old records answer new ⊎ ((answer ≡ Err Memory) × MoveCut request found old records new) → IsGuarded (Some Move) request old new
     by_end (inl work) = both (λ key outside. moved_outside (fixed_path request.path (Some found.meta)) found old new records key outside work.names work.done)
     by_end (inr cut) = both (λ key outside. moved_part_outside (fixed_path request.path (Some found.meta)) found old new records key outside cut.1)
 
@@ -245,7 +245,7 @@ guards_copy settings request found old new head records answer passed done = by_
     within : ((key : Key) → is_at_or_below key found.destination.key ≡ false → standing new.contents key ≡ standing old.contents key) → IsGuarded (Some Copy) request old new
     within elsewhere = guarded_both (Some Copy) request old new found.destination.key found.destination.key rules.permitted rules.permitted (λ key outside. elsewhere key outside.0)
 
-    by_end : CopyWork request found old records answer new ⊎ ((answer ≡ Err Memory) × CopyCut request found old records new) → IsGuarded (Some Copy) request old new
+    by_end : CopyWork settings.profile request found old records answer new ⊎ ((answer ≡ Err Memory) × CopyCut request found old records new) → IsGuarded (Some Copy) request old new
     by_end (inl work) = within (λ key outside. copied_outside (depth_or_all request) (fixed_path request.path (Some found.meta)) found old new records key outside work.names work.done)
     by_end (inr cut) = within (λ key outside. copied_part_outside (depth_or_all request) (fixed_path request.path (Some found.meta)) found old new records key outside cut.1)
 
@@ -256,7 +256,7 @@ guards_proppatch settings request found old new head records answer passed done 
     keeps = settings.facts.keeps_properties
 
     at_path : ((key : Key) → (key ≢ request.path.key) → IsChanged key old.contents new.contents → ⊥) → IsGuarded (Some PropPatch) request old new
-    at_path = guarded_at (Some PropPatch) request old new (update_passed keeps request old head found passed).permitted
+    at_path = guarded_at (Some PropPatch) request old new (update_passed settings.profile keeps request old head found passed).permitted
 
     by_end : proppatch_method.Work settings request found old records answer new ⊎ ((answer ≡ Err Memory) × proppatch_method.Cut settings request found old records new) → IsGuarded (Some PropPatch) request old new
     by_end (inl work) = at_path (λ key. changes_elsewhere keeps request.path.key key _ old.contents new.contents records work.0.store_answer work.0.stored)

@@ -2,6 +2,7 @@
 use Rattle.std.proofs.Common.{◌≡◌, inl, inr, refl, sym, ap, Bool, true, false, if◌then◌else◌, List, [], ◌∷◌, ℕ, Option, Some, None, Result, Ok, Err, ◌∙◌}
 use Rattle.dav_key.specs.Key.{Key}
 use Rattle.dav_resource.specs.PathText.{PathValue}
+use Rattle.dav_resource.specs.declared.profile.Profile.{Profile}
 use Rattle.dav_resource.specs.declared.error.DavError.{DavError}
 use Rattle.dav_resource.specs.declared.error.FsError.{FsError}
 use Rattle.dav_resource.specs.declared.meta.Meta.{Meta}
@@ -202,8 +203,8 @@ module _ (request : DavRequest) (state : State) where
       looks_then (judged _) _ (looks_judged _) (λ locks.
       looks_then (judged _) _ (looks_judged _) (λ token. (refl, λ outcome. tt)))
 
-  pub proppatch_looks : (keeps : Bool) → OnlyLookups (proppatch_rules keeps request state)
-  proppatch_looks keeps =
+  pub proppatch_looks : (profile : Profile) (keeps : Bool) → OnlyLookups (proppatch_rules profile keeps request state)
+  proppatch_looks profile keeps =
       looks_then (found_rules request state) _
       (looks_then (must_find state.contents request.path.key) _ (looks_found state.contents request.path.key) (λ meta. looks_path (Some meta))) (λ found.
       looks_then (judged _) _ (looks_judged _) (λ changes. looks_if (some_refused changes) (Refuses _) (Passed (found, changes)) tt tt))
@@ -211,8 +212,8 @@ module _ (request : DavRequest) (state : State) where
   pub options_looks : OnlyLookups (options_rules request state)
   options_looks = looks_if request.path.star (Passed None) (look_up state.contents request.path.key) tt (refl, λ outcome. tt)
 
-  pub propfind_looks : (held : Bodies) → OnlyLookups (propfind_rules held request state)
-  propfind_looks held =
+  pub propfind_looks : (profile : Profile) (held : Bodies) → OnlyLookups (propfind_rules profile held request state)
+  propfind_looks profile held =
       looks_if (is_too_deep request) (Refuses _) (sought_rules held request state) tt
       (looks_then (must_find state.contents request.path.key) _ (looks_found state.contents request.path.key) (λ meta.
       looks_then (judged _) _ (looks_judged _) (λ asking. tt)))

@@ -4,6 +4,7 @@ use Rattle.std.proofs.lemmas.Slice.Eq.{bytes_eq-Decides}
 use Rattle.dav_resource.specs.Errors.{fs_status}
 use Rattle.dav_key.specs.Key.{Key, parent, is_same_key, same_key_decides}
 use Rattle.dav_resource.specs.PathText.{PathValue}
+use Rattle.dav_resource.specs.declared.profile.Profile.{Profile}
 use Rattle.dav_resource.specs.declared.error.DavError.{DavError}
 use Rattle.dav_resource.specs.declared.error.DavError.TheVariants.{Memory}
 use Rattle.dav_resource.specs.declared.error.FsError.{FsError}
@@ -165,18 +166,18 @@ refusal_untold e status is = by_tests (nat_eq status 201) refl (nat_eq status 20
     by_tests false at false other = rw (at, other) refl
 
 -- a reply that names refusals doesn't tell a move
-pub named_untold : (path : PathValue) (item : Item) (names : List Item) → AreRefusals (item ∷ names) → is_transferred (multi_answer path (item ∷ names)) ≡ false
-named_untold path item [] refusals = by_key (is_same_key path.key item.0.key)
+pub named_untold : (profile : Profile) (path : PathValue) (item : Item) (names : List Item) → AreRefusals (item ∷ names) → is_transferred (multi_answer profile path (item ∷ names)) ≡ false
+named_untold profile path item [] refusals = by_key (is_same_key path.key item.0.key)
   where
-    by_key : (b : Bool) → is_transferred (if b then Ok (bare_reply item.1 []) else Ok (multistatus_reply (item ∷ []))) ≡ false
+    by_key : (b : Bool) → is_transferred (if b then Ok (bare_reply item.1 []) else Ok (multistatus_reply profile (item ∷ []))) ≡ false
     by_key true = let refusal = refusals item (inl refl) in refusal_untold refusal.0 item.1 refusal.1
     by_key false = refl
-named_untold path item (next ∷ names) refusals = refl
+named_untold profile path item (next ∷ names) refusals = refl
 
 -- one that names nothing does
-pub clean_told : (path : PathValue) (there : Option Meta) → is_transferred (multi_answer path (transferred_items path there [])) ≡ true
-clean_told path there =
-    subst (λ b. is_transferred (if b then Ok (bare_reply (if is_some there then 204 else 201) []) else Ok (multistatus_reply ((path, if is_some there then 204 else 201) ∷ []))) ≡ true)
+pub clean_told : (profile : Profile) (path : PathValue) (there : Option Meta) → is_transferred (multi_answer profile path (transferred_items path there [])) ≡ true
+clean_told profile path there =
+    subst (λ b. is_transferred (if b then Ok (bare_reply (if is_some there then 204 else 201) []) else Ok (multistatus_reply profile ((path, if is_some there then 204 else 201) ∷ []))) ≡ true)
     (sym ((same_key_decides path.key path.key).1 refl)) (by_there (is_some there))
   where
     by_there : (b : Bool) → (nat_eq (if b then 204 else 201) 201 || nat_eq (if b then 204 else 201) 204) ≡ true
@@ -201,14 +202,14 @@ module _ (settings : Settings) (request : DavRequest) (old : State) (answer : An
     abbrev path : PathValue
     path = fixed_path request.path (Some found.meta)
 
-    work_tells : MoveWork request found old records answer new → MoveTells
+    work_tells : MoveWork settings.profile request found old records answer new → MoveTells
     work_tells work = by_names work.names work.done work.answered
       where
         asked_so : (verdict : Result (Unit {0}) DavError) → where_reached verdict settings request ≡ Ok found.destination → destination_of request.headers settings.prefix ≡ Ok found.destination
         asked_so (Ok reached) is = is
         asked_so (Err e) is = absurd cc
 
-        by_names : (names : List Item) → Moves path found old records names new → answer ≡ multi_answer path (transferred_items path found.there names) → MoveTells
+        by_names : (names : List Item) → Moves path found old records names new → answer ≡ multi_answer settings.profile path (transferred_items path found.there names) → MoveTells
         by_names [] moved answered =
             let whole = moves_whole path found old new records apart moved in (
               (λ recorded. record {
@@ -217,11 +218,11 @@ module _ (settings : Settings) (request : DavRequest) (old : State) (answer : An
                 renamed = whole.0;
                 unlocked = λ reliable. unlocked request whole.1.0 new whole.1.2 (ap (λ (r : Reliable). r.delete) whole.1.1.reliable ∙ reliable);
               }),
-              (λ recorded other key below. absurd (let no : true ≡ false = sym (ap is_transferred answered ∙ clean_told path found.there) ∙ recorded in cc)),
+              (λ recorded other key below. absurd (let no : true ≡ false = sym (ap is_transferred answered ∙ clean_told settings.profile path found.there) ∙ recorded in cc)),
             )
         by_names (item ∷ names) moved answered =
             let refusals : AreRefusals (item ∷ names) = moves_refused path found old new records (item ∷ names) moved in (
-              (λ recorded. absurd (let no : false ≡ true = sym (ap is_transferred answered ∙ named_untold path item names refusals) ∙ recorded in cc)),
+              (λ recorded. absurd (let no : false ≡ true = sym (ap is_transferred answered ∙ named_untold settings.profile path item names refusals) ∙ recorded in cc)),
               (λ recorded other key below.
                   let tail = at_or_below-tail request.path.key key below in
                   subst (λ k. standing new.contents k ≡ standing old.contents k) (sym tail.1) (moves_none path found old new records apart item names moved tail.0)),

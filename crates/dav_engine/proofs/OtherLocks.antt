@@ -276,7 +276,7 @@ other_locks_delete settings request old new records answer lawful step =
     may : DavLock → Bool
     may = may_change_lock (Some Delete) settings request
 
-    passed : (found : Meta) (head rest : List Logged) → LeadsTo (delete_method.rules settings request old) head (Passed found) → DeleteWork request found old rest answer new ⊎ DeleteCut request found old rest new → LosesOnly may old new
+    passed : (found : Meta) (head rest : List Logged) → LeadsTo (delete_method.rules settings request old) head (Passed found) → DeleteWork settings.profile request found old rest answer new ⊎ DeleteCut request found old rest new → LosesOnly may old new
     passed found head rest rules end = by_end end
       where
         free : IsFree may request.path.key old
@@ -286,7 +286,7 @@ other_locks_delete settings request old new records answer lawful step =
         by_locks (inl same) = loses_stay may old new same
         by_locks (inr gone) = loses_dropped may request.path.key old new free gone.1
 
-        by_end : DeleteWork request found old rest answer new ⊎ DeleteCut request found old rest new → LosesOnly may old new
+        by_end : DeleteWork settings.profile request found old rest answer new ⊎ DeleteCut request found old rest new → LosesOnly may old new
         by_end (inl work) = loses_by_names may work.names request.path old new free work.locks
         by_end (inr cut) = by_locks cut.locks
 
@@ -297,7 +297,7 @@ other_locks_copy settings request old new records answer lawful step =
     may : DavLock → Bool
     may = may_change_lock (Some Copy) settings request
 
-    passed : (found : Transfer) (head rest : List Logged) → LeadsTo (copy_method.rules settings request old) head (Passed found) → CopyWork request found old rest answer new ⊎ CopyCut request found old rest new → LosesOnly may old new
+    passed : (found : Transfer) (head rest : List Logged) → LeadsTo (copy_method.rules settings request old) head (Passed found) → CopyWork settings.profile request found old rest answer new ⊎ CopyCut request found old rest new → LosesOnly may old new
     passed found head rest rules end = by_end end
       where
         seen : CopyPassed settings request old found
@@ -311,7 +311,7 @@ other_locks_copy settings request old new records answer lawful step =
         there : Bool
         there = is_some (replaced (depth_or_all request) found.there)
 
-        by_end : CopyWork request found old rest answer new ⊎ CopyCut request found old rest new → LosesOnly may old new
+        by_end : CopyWork settings.profile request found old rest answer new ⊎ CopyCut request found old rest new → LosesOnly may old new
         by_end (inl work) =
             loses_replaced may there found.destination old new rest free (CopiesSource (depth_or_all request) (source_path request found) found.destination) work.names work.done
             (λ mid more loses follows. loses_stay may mid new follows.locks)
@@ -326,7 +326,7 @@ other_locks_move settings request old new records answer lawful step =
     may : DavLock → Bool
     may = may_change_lock (Some Move) settings request
 
-    passed : (found : Transfer) (head rest : List Logged) → LeadsTo (move_method.rules settings request old) head (Passed found) → MoveWork request found old rest answer new ⊎ MoveCut request found old rest new → LosesOnly may old new
+    passed : (found : Transfer) (head rest : List Logged) → LeadsTo (move_method.rules settings request old) head (Passed found) → MoveWork settings.profile request found old rest answer new ⊎ MoveCut request found old rest new → LosesOnly may old new
     passed found head rest rules end = by_end end
       where
         seen : MovePassed settings request old found
@@ -349,7 +349,7 @@ other_locks_move settings request old new records answer lawful step =
         by_part mid more loses (inl none) = loses_none may mid new none.1
         by_part mid more loses (inr (names, moves)) = by_moves mid more names loses moves
 
-        by_end : MoveWork request found old rest answer new ⊎ MoveCut request found old rest new → LosesOnly may old new
+        by_end : MoveWork settings.profile request found old rest answer new ⊎ MoveCut request found old rest new → LosesOnly may old new
         by_end (inl work) =
             loses_replaced may (is_some found.there) found.destination old new rest free (MovesSource (source_path request found) found.destination) work.names work.done
             (λ mid more loses follows. by_moves mid more work.names loses follows)

@@ -3,11 +3,12 @@ use Rattle.std.proofs.Common.{◌≡◌, ◌⊎◌, ◌∙◌, ◌==◌, ℕ, Bo
 use Rattle.std.specs.FinMap.{get, empty, empty_of_len, len}
 use Rattle.std.proofs.lemmas.Bool.Decides.{nat_tests}
 use Rattle.std.proofs.lemmas.List.{length-replicate}
+use Rattle.dav_resource.specs.declared.profile.Profile.{Profile}
 use Rattle.dav_resource.specs.declared.error.FsError.{FsError}
 use Rattle.dav_resource.specs.declared.meta.Meta.{Meta}
 use Rattle.dav_resource.specs.declared.request.DavRequest.{DavRequest}
 use Rattle.dav_store.specs.Logged.{Logged}
-use Rattle.dav_store.specs.PropertyCalls.{Patch, IsPatchedAt, patched, properties_at, some_properties}
+use Rattle.dav_store.specs.PropertyCalls.{Patch, HasTimes, IsPatchedAt, patched, properties_at, some_properties}
 use Rattle.dav_store.specs.Store.{Contents, PropertyMap}
 use Rattle.dav_messages.specs.Conditions.{conditions}
 use Rattle.dav_messages.specs.Dialogue.{Dialogue, Asks, Refuses, Passed, LeadsTo, ◌>>=◌}
@@ -45,6 +46,7 @@ module _ (request : DavRequest) (changes : List Change) (old new : State) (locks
     here = ap (λ m. unwrap_or (get m request.path.key) empty) made.properties ∙ ap (λ o. unwrap_or o empty) (put_at_here old.contents.properties request.path.key _) ∙ kept_properties _;
     elsewhere = λ key apart. ap (λ m. unwrap_or (get m key) empty) made.properties ∙ ap (λ o. unwrap_or o empty) (put_at_elsewhere old.contents.properties request.path.key key _ apart);
     tree = made.tree;
+    times = made.times;
     locks = locks;
   }
 
@@ -54,6 +56,7 @@ module _ (request : DavRequest) (changes : List Change) (old new : State) (locks
     here = ap (λ (c : Contents). properties_at c request.path.key) same ∙ ap (λ patches. patched patches (properties_at old.contents request.path.key)) (sym none);
     elsewhere = λ key apart. ap (λ (c : Contents). properties_at c key) same;
     tree = ap (λ (c : Contents). c.tree) same;
+    times = subst (λ patches. HasTimes patches (new.contents.metas request.path.key)) (sym none) (record { modified = λ secs no. absurd cc; created = λ secs no. absurd cc });
     locks = locks;
   }
 
@@ -94,33 +97,36 @@ decided true answer other a (r ∷ records) h = absurd h
 decided false answer other a [] h = absurd cc
 decided false answer other a (r ∷ records) h = absurd h
 
-record RepliesRefused (keeps : Bool) (request : DavRequest) (state : State) (reply : Reply) : Type 0 where
+record RepliesRefused (profile : Profile) (keeps : Bool) (request : DavRequest) (state : State) (reply : Reply) : Type 0 where
   changes : List Change
-  asked : update_verdict keeps request.body ≡ Ok changes
+  asked : update_verdict profile keeps request.body ≡ Ok changes
   refused : some_refused changes ≡ true
-  shown : reply ≡ proppatch_reply request.path (state.contents.metas request.path.key) (grouped (failed_report changes))
+  shown : reply ≡ proppatch_reply profile request.path (state.contents.metas request.path.key) (grouped (failed_report changes))
 
-module _ (keeps : Bool) (request : DavRequest) (state : State) (reply : Reply) where
-  by_changes : (found : Option Meta) (records : List Logged) → found ≡ state.contents.metas request.path.key → LeadsTo (judged (update_verdict keeps request.body) >>= unless_some_refused request found) records (Refuses (Ok reply)) → RepliesRefused keeps request state reply
-  by_changes found records known led = by_read (led_refused (judged (update_verdict keeps request.body)) (unless_some_refused request found) records (Ok reply) led)
+module _ (profile : Profile) (keeps : Bool) (request : DavRequest) (state : State) (reply : Reply) where
+  by_changes : (found : Option Meta) (records : List Logged) → found ≡ state.contents.metas request.path.key → LeadsTo (judged (update_verdict profile keeps request.body) >>= unless_some_refused profile request found) records (Refuses (Ok reply)) → RepliesRefused profile keeps request state reply
+  by_changes found records known led = by_read (led_refused (judged (update_verdict profile keeps request.body)) (unless_some_refused profile request found) records (Ok reply) led)
     where
-      by_read : IsOfEither (judged (update_verdict keeps request.body)) (unless_some_refused request found) records (Ok reply) → RepliesRefused keeps request state reply
-      by_read (inl unread) = absurd (no_reply (judged (update_verdict keeps request.body)) records reply (errs_judged (update_verdict keeps request.body)) unread)
+      by_read : IsOfEither (judged (update_verdict profile keeps request.body)) (unless_some_refused profile request found) records (Ok reply) → RepliesRefused profile keeps request state reply
+      by_read (inl unread) = absurd (no_reply (judged (update_verdict profile keeps request.body)) records reply (errs_judged (update_verdict profile keeps request.body)) unread)
       by_read (inr (changes, head, rest, read, end)) =
           let is = decided (some_refused changes) _ (Ok reply) (found, changes) rest end in
-          let shown : reply ≡ proppatch_reply request.path found (grouped (failed_report changes)) = let same = is.1 in cc in
-          record { changes = changes; asked = judged_passed (update_verdict keeps request.body) changes head read; refused = is.0; shown = shown ∙ ap (λ m. proppatch_reply request.path m (grouped (failed_report changes))) known }
+          let shown : reply ≡ proppatch_reply profile request.path found (grouped (failed_report changes)) = let same = is.1 in cc in
+          record { changes = changes; asked = judged_passed (update_verdict profile keeps request.body) changes head read; refused = is.0; shown = shown ∙ ap (λ m. proppatch_reply profile request.path m (grouped (failed_report changes))) known }
 
-  replies_refused : (records : List Logged) → LeadsTo (proppatch_rules keeps request state) records (Refuses (Ok reply)) → RepliesRefused keeps request state reply
+  replies_refused : (records : List Logged) → LeadsTo (proppatch_rules profile keeps request state) records (Refuses (Ok reply)) → RepliesRefused profile keeps request state reply
   replies_refused records led = by_found (led_refused (found_rules request state) _ records (Ok reply) led)
     where
-      by_found : IsOfEither (found_rules request state) (λ found. judged (update_verdict keeps request.body) >>= unless_some_refused request found) records (Ok reply) → RepliesRefused keeps request state reply
+      by_found : IsOfEither (found_rules request state) (λ found. judged (update_verdict profile keeps request.body) >>= unless_some_refused profile request found) records (Ok reply) → RepliesRefused profile keeps request state reply
       by_found (inl none) = absurd (no_reply (found_rules request state) records reply (errs_found request state) none)
       by_found (inr (found, head, rest, led, more)) = by_changes found rest (found_known request state head found led) more
 
 -- ---- each step
 
 module _ (settings : Settings) (request : DavRequest) (old : State) (records : List Logged) where
+  abbrev profile : Profile
+  profile = settings.profile
+
   abbrev keeps : Bool
   keeps = settings.facts.keeps_properties
 
@@ -131,8 +137,8 @@ module _ (settings : Settings) (request : DavRequest) (old : State) (records : L
   statuses_by : (changes : List Change) (refused : Bool) → some_refused changes ≡ refused → statuses_of changes here ≡ (if refused then map status_beside_refused (live_first changes) else passed changes ++ here)
   statuses_by changes refused is = ap (λ b. if b then map status_beside_refused (live_first changes) else passed changes ++ here) is
 
-  module _ (update : Update) (new : State) (seen : UpdatePassed keeps request old update) (locks : LocksStay old new) (rest : List Logged) (statuses : List ℕ) (reply : Reply)
-      (shown : reply ≡ proppatch_reply request.path update.0 (grouped (made_report update.1 statuses))) (is_returned : here ≡ statuses) where
+  module _ (update : Update) (new : State) (seen : UpdatePassed profile keeps request old update) (locks : LocksStay old new) (rest : List Logged) (statuses : List ℕ) (reply : Reply)
+      (shown : reply ≡ proppatch_reply profile request.path update.0 (grouped (made_report update.1 statuses))) (is_returned : here ≡ statuses) where
     tells : length statuses ≡ length (patches_of update.1) → (all_200 statuses ≡ true → AreStored request update.1 old new) → (all_200 statuses ≡ false → ChangesNothing old new) → StoresAllOrNothing settings request old records reply new
     tells count stored unstored = record {
       changes = update.1;
@@ -140,7 +146,7 @@ module _ (settings : Settings) (request : DavRequest) (old : State) (records : L
       reported = made_report update.1 statuses;
       each = made_names update.1 statuses count;
       own = own ∙ ap (λ more. passed update.1 ++ more) (sym is_returned) ∙ sym (statuses_by update.1 false seen.none_refused);
-      shown = shown ∙ ap (λ m. proppatch_reply request.path m (grouped (made_report update.1 statuses))) seen.known;
+      shown = shown ∙ ap (λ m. proppatch_reply profile request.path m (grouped (made_report update.1 statuses))) seen.known;
       stored = λ ok. stored (sym is_ok ∙ ok);
       unstored = λ not_ok. unstored (sym is_ok ∙ not_ok);
     }
@@ -168,7 +174,7 @@ module _ (settings : Settings) (request : DavRequest) (old : State) (records : L
 
   patch_tells : (answer : Answer) (new : State) → StepBy proppatch_method settings request old records answer new → ReportsStored settings request old records answer new
   patch_tells answer new (Refused h) reply is =
-      let r = replies_refused keeps request old reply records (subst (λ a. LeadsTo (proppatch_rules keeps request old) records (Refuses a)) is h.head) in
+      let r = replies_refused profile keeps request old reply records (subst (λ a. LeadsTo (proppatch_rules profile keeps request old) records (Refuses a)) is h.head) in
       record {
         changes = r.changes;
         asked = r.asked;
@@ -181,13 +187,13 @@ module _ (settings : Settings) (request : DavRequest) (old : State) (records : L
       }
   patch_tells answer new (Done h) reply is = by_reported h.work.0.store_answer h.work.0.stored h.work.0.answered
     where
-      seen : UpdatePassed keeps request old h.found
-      seen = update_passed keeps request old h.head h.found h.passed
+      seen : UpdatePassed profile keeps request old h.found
+      seen = update_passed profile keeps request old h.head h.found h.passed
 
-      by_reported : (recorded : Result (List ℕ) FsError) → MakesChanges keeps request.path.key (patches_of h.found.1) old.contents h.rest recorded new.contents → answer ≡ stored_answer request h.found recorded → StoresAllOrNothing settings request old records reply new
+      by_reported : (recorded : Result (List ℕ) FsError) → MakesChanges keeps request.path.key (patches_of h.found.1) old.contents h.rest recorded new.contents → answer ≡ stored_answer profile request h.found recorded → StoresAllOrNothing settings request old records reply new
       by_reported (Ok statuses) made answered =
           tells_changes h.found new seen h.work.1 h.rest statuses reply (let same = sym is ∙ answered in cc)
-          (both_returned request.path.key records h.head h.rest h.cut (none_returned request.path.key (proppatch_rules keeps request old) h.head (Passed h.found) h.passed) ∙ work_returned keeps request.path.key (patches_of h.found.1) old.contents h.rest statuses new.contents made)
+          (both_returned request.path.key records h.head h.rest h.cut (none_returned request.path.key (proppatch_rules profile keeps request old) h.head (Passed h.found) h.passed) ∙ work_returned keeps request.path.key (patches_of h.found.1) old.contents h.rest statuses new.contents made)
           (patches_of h.found.1) refl made
       by_reported (Err e) made answered = let no = sym is ∙ answered in absurd cc
   patch_tells answer new (CutShort h) reply is = let no = sym is ∙ h.answered in absurd cc
@@ -197,7 +203,7 @@ module _ (settings : Settings) (request : DavRequest) (old : State) (records : L
   patch_kept answer new (Refused h) e is other = same_state old new h.same
   patch_kept answer new (Done h) e is other = by_reported h.work.0.store_answer (patches_of h.found.1) h.work.0.stored h.work.0.answered
     where
-      by_reported : (recorded : Result (List ℕ) FsError) (patches : List Patch) → MakesChanges keeps request.path.key patches old.contents h.rest recorded new.contents → answer ≡ stored_answer request h.found recorded → ChangesNothing old new
+      by_reported : (recorded : Result (List ℕ) FsError) (patches : List Patch) → MakesChanges keeps request.path.key patches old.contents h.rest recorded new.contents → answer ≡ stored_answer profile request h.found recorded → ChangesNothing old new
       by_reported (Ok statuses) patches made answered = let no = sym is ∙ answered in absurd cc
       by_reported (Err cause) [] none answered = record { contents = none.same; locks = h.work.1 }
       by_reported (Err cause) (patch ∷ patches) (inl all) answered = let no = all.returns_all in absurd cc
@@ -207,9 +213,9 @@ module _ (settings : Settings) (request : DavRequest) (old : State) (records : L
   patch_kept answer new (CutInWork h) e is other = absurd (other (let same = sym is ∙ h.answered in cc))
 
   -- where all rules are passed, no change is refused
-  unrefused : (update : Update) (head : List Logged) → LeadsTo (proppatch_rules keeps request old) head (Passed update) → (changes : List Change) → update_verdict keeps request.body ≡ Ok changes → some_refused changes ≡ true → ⊥
+  unrefused : (update : Update) (head : List Logged) → LeadsTo (proppatch_rules profile keeps request old) head (Passed update) → (changes : List Change) → update_verdict profile keeps request.body ≡ Ok changes → some_refused changes ≡ true → ⊥
   unrefused update head led changes asked refused =
-      let passed = update_passed keeps request old head update led in
+      let passed = update_passed profile keeps request old head update led in
       let same : changes ≡ update.1 = let both = sym asked ∙ passed.read in cc in
       let no : true ≡ false = sym refused ∙ ap some_refused same ∙ passed.none_refused in
       cc

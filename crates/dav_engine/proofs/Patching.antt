@@ -3,7 +3,7 @@ use Rattle.std.proofs.Common.{◌≡◌, ◌≢◌, ◌∙◌, ◌⊎◌, ℕ, B
 use Rattle.std.proofs.lemmas.List.Elements.{All-map}
 use Rattle.dav_resource.specs.Errors.{from_fs}
 use Rattle.dav_key.specs.Key.{Key}
-use Rattle.dav_resource.specs.Tree.{Tree}
+use Rattle.dav_resource.specs.declared.profile.Profile.{Profile}
 use Rattle.dav_resource.specs.declared.error.DavError.{DavError}
 use Rattle.dav_resource.specs.declared.error.DavError.TheVariants.{Memory}
 use Rattle.dav_resource.specs.declared.error.FsError.{FsError}
@@ -19,8 +19,8 @@ use Rattle.dav_messages.specs.Dialogue.{Dialogue, Passed, Refuses, LeadsTo, Judg
 use Rattle.dav_messages.specs.Dialogues.{LeadsTo-last, judges_exit, judges_then, judges_left, judges_pure, judges_memory, reaches_none, reaches_then}
 use Rattle.dav_messages.specs.Reply.{Answer}
 use Rattle.dav_props.specs.Update.{Change, update_verdict, some_refused, patch_of, patches_of, is_dead, failed_report}
-use Rattle.dav_props.specs.Property.{prop_named}
 use Rattle.dav_props.specs.Propstat.{grouped}
+use Rattle.dav_props.specs.UpdateLaws.{patch_whole}
 use Rattle.dav_engine.specs.Patching.{StoresChanges, IsUnmade, Patching}
 use Rattle.dav_engine.specs.Proppatch.{Update, proppatch_reply, found_rules, unless_some_refused, proppatch_rules, stored_answer}
 use Rattle.dav_engine.specs.Rules.{judged, must_find, is_permitted}
@@ -30,10 +30,10 @@ use Rattle.dav_engine.proofs.Passing.{judged_passed, path_passed, path_value, fo
 
 -- ---- what the rules have seen to, where they are passed
 
-pub record UpdatePassed (keeps : Bool) (request : DavRequest) (state : State) (update : Update) : Type 0 where
+pub record UpdatePassed (profile : Profile) (keeps : Bool) (request : DavRequest) (state : State) (update : Update) : Type 0 where
   pub permitted : is_permitted request state request.path.key false ≡ true
   pub known : update.0 ≡ state.contents.metas request.path.key
-  pub read : update_verdict keeps request.body ≡ Ok update.1
+  pub read : update_verdict profile keeps request.body ≡ Ok update.1
   pub none_refused : some_refused update.1 ≡ false
 
 -- what was found is what is there
@@ -48,66 +48,59 @@ decided true answer a b (r ∷ records) h = absurd h
 decided false answer a b [] h = (refl, cc)
 decided false answer a b (r ∷ records) h = absurd h
 
-pub update_passed : (keeps : Bool) (request : DavRequest) (state : State) (head : List Logged) (update : Update) → LeadsTo (proppatch_rules keeps request state) head (Passed update) → UpdatePassed keeps request state update
-update_passed keeps request state head update h =
+pub update_passed : (profile : Profile) (keeps : Bool) (request : DavRequest) (state : State) (head : List Logged) (update : Update) → LeadsTo (proppatch_rules profile keeps request state) head (Passed update) → UpdatePassed profile keeps request state update
+update_passed profile keeps request state head update h =
     let found = LeadsTo-last (found_rules request state) _ head update h in
     let looked = LeadsTo-last (must_find state.contents request.path.key) _ found.1 found.0 found.3 in
-    let read = LeadsTo-last (judged (update_verdict keeps request.body)) (unless_some_refused request found.0) found.2 update found.4 in
+    let read = LeadsTo-last (judged (update_verdict profile keeps request.body)) (unless_some_refused profile request found.0) found.2 update found.4 in
     let none = decided (some_refused read.0) _ (found.0, read.0) update read.2 read.4 in
     record {
       permitted = path_passed request state (Some looked.0) looked.2 found.0 looked.4;
       known = ap (λ (u : Update). u.0) none.1 ∙ found_known request state found.1 found.0 found.3;
-      read = judged_passed (update_verdict keeps request.body) read.0 read.1 read.3 ∙ ap (λ (u : Update). Ok u.1) (sym none.1);
+      read = judged_passed (update_verdict profile keeps request.body) read.0 read.1 read.3 ∙ ap (λ (u : Update). Ok u.1) (sym none.1);
       none_refused = ap (λ (u : Update). some_refused u.1) none.1 ∙ none.0;
     }
 
 -- ---- the rules, judged
 
-module _ (keeps : Bool) (request : DavRequest) (state : State) (old mid : Store) where
+module _ (profile : Profile) (keeps : Bool) (request : DavRequest) (state : State) (old mid : Store) where
   -- a rule before the body refuses
-  pub judges_unfound : (e : DavError) → Judges (found_rules request state) old (Err e) mid → Judges (proppatch_rules keeps request state) old (Err e) mid
+  pub judges_unfound : (e : DavError) → Judges (found_rules request state) old (Err e) mid → Judges (proppatch_rules profile keeps request state) old (Err e) mid
   judges_unfound e h = judges_exit _ (found_rules request state) old mid e (Err e) refl h
 
   module _ (found : Option Meta) (h : Judges (found_rules request state) old (Ok found) mid) where
     abbrev read : Dialogue (List Change)
-    read = judged (update_verdict keeps request.body)
+    read = judged (update_verdict profile keeps request.body)
 
     -- the body can't be read, or memory ran out
-    pub judges_unreadable : (e : DavError) → (update_verdict keeps request.body ≡ Err e) ⊎ (e ≡ Memory) → Judges (proppatch_rules keeps request state) old (Err e) mid
-    judges_unreadable e (inl wrong) = judges_then _ (found_rules request state) old mid mid found (Err e) h (judges_exit _ read mid mid e (Err e) refl (judges_known (update_verdict keeps request.body) (Err e) mid wrong))
-    judges_unreadable e (inr memory) = judges_then _ (found_rules request state) old mid mid found (Err e) h (judges_memory (read >>= unless_some_refused request found) mid (Err e) memory)
+    pub judges_unreadable : (e : DavError) → (update_verdict profile keeps request.body ≡ Err e) ⊎ (e ≡ Memory) → Judges (proppatch_rules profile keeps request state) old (Err e) mid
+    judges_unreadable e (inl wrong) = judges_then _ (found_rules request state) old mid mid found (Err e) h (judges_exit _ read mid mid e (Err e) refl (judges_known (update_verdict profile keeps request.body) (Err e) mid wrong))
+    judges_unreadable e (inr memory) = judges_then _ (found_rules request state) old mid mid found (Err e) h (judges_memory (read >>= unless_some_refused profile request found) mid (Err e) memory)
 
-    module _ (changes : List Change) (asked : update_verdict keeps request.body ≡ Ok changes) where
-      reached : Reaches (proppatch_rules keeps request state) old (unless_some_refused request found changes) mid
+    module _ (changes : List Change) (asked : update_verdict profile keeps request.body ≡ Ok changes) where
+      reached : Reaches (proppatch_rules profile keeps request state) old (unless_some_refused profile request found changes) mid
       reached =
-          reaches_then (proppatch_rules keeps request state) read (unless_some_refused request found) old mid mid changes
-          (reaches_then (proppatch_rules keeps request state) (found_rules request state) _ old old mid found (reaches_none (proppatch_rules keeps request state) old) h)
-          (judges_known (update_verdict keeps request.body) (Ok changes) mid asked)
+          reaches_then (proppatch_rules profile keeps request state) read (unless_some_refused profile request found) old mid mid changes
+          (reaches_then (proppatch_rules profile keeps request state) (found_rules request state) _ old old mid found (reaches_none (proppatch_rules profile keeps request state) old) h)
+          (judges_known (update_verdict profile keeps request.body) (Ok changes) mid asked)
 
       -- memory ran out behind that
-      pub judges_untold : Judges (proppatch_rules keeps request state) old (Err Memory) mid
-      judges_untold = judges_left _ (unless_some_refused request found changes) old mid mid (Err Memory) reached (judges_memory (unless_some_refused request found changes) mid (Err Memory) refl)
+      pub judges_untold : Judges (proppatch_rules profile keeps request state) old (Err Memory) mid
+      judges_untold = judges_left _ (unless_some_refused profile request found changes) old mid mid (Err Memory) reached (judges_memory (unless_some_refused profile request found changes) mid (Err Memory) refl)
 
       -- a change is refused
-      pub reaches_refusal : some_refused changes ≡ true → Reaches (proppatch_rules keeps request state) old (Refuses (Ok (proppatch_reply request.path found (grouped (failed_report changes))))) mid
+      pub reaches_refusal : some_refused changes ≡ true → Reaches (proppatch_rules profile keeps request state) old (Refuses (Ok (proppatch_reply profile request.path found (grouped (failed_report changes))))) mid
       reaches_refusal refused = rw refused at reached
 
       -- none is
-      pub judges_update : some_refused changes ≡ false → Judges (proppatch_rules keeps request state) old (Ok (found, changes)) mid
+      pub judges_update : some_refused changes ≡ false → Judges (proppatch_rules profile keeps request state) old (Ok (found, changes)) mid
       judges_update none = judges_left _ (Passed (found, changes)) old mid mid (Ok (found, changes)) (rw none at reached) (judges_pure (Passed (found, changes)) mid (Ok (found, changes)) refl)
 
 -- ---- the store is asked
 
 -- what is to be set has its element
 pub all_whole : (changes : List Change) → All IsWhole (patches_of changes)
-all_whole changes = All-map IsWhole patch_of (filter is_dead changes) (each (filter is_dead changes))
-  where
-    whole : (set : Bool) (element : Tree) → IsWhole (set, prop_named element (if set then Some element else None))
-    whole true element = refl
-    whole false element = tt
-
-    each : (cs : List Change) → All (λ change. IsWhole (patch_of change)) cs
-    each cs = λ index other less. whole (get_or cs index other).set (get_or cs index other).element
+all_whole changes = All-map IsWhole patch_of (filter is_dead changes) (λ index other less. patch_whole (get_or (filter is_dead changes) index other))
 
 module _ (key : Key) where
   -- there is nothing to ask for
@@ -147,13 +140,13 @@ module _ (key : Key) where
 
 -- ---- the work
 
-module _ (request : DavRequest) (update : Update) where
+module _ (profile : Profile) (request : DavRequest) (update : Update) where
   -- memory ran out before the store was asked
-  pub patch_unbegun : (store : Store) (answer : Answer) → answer ≡ Err Memory → Patching request update store answer store
+  pub patch_unbegun : (store : Store) (answer : Answer) → answer ≡ Err Memory → Patching profile request update store answer store
   patch_unbegun store answer is = record { records = []; recorded = sym (append-nil store.log); fixed = refl; done = inr (is, inl (record { none = refl; same = refl })) }
 
   -- the store made nothing
-  pub patch_unmade : (old new : Store) (e : DavError) (answer : Answer) → answer ≡ Err e → IsUnmade request.path.key (patches_of update.1) old e new → Patching request update old answer new
+  pub patch_unmade : (old new : Store) (e : DavError) (answer : Answer) → answer ≡ Err e → IsUnmade request.path.key (patches_of update.1) old e new → Patching profile request update old answer new
   patch_unmade old new e answer is (inl h) = rw h.1 (patch_unbegun old answer (is ∙ ap Err h.0))
   patch_unmade old new e answer is (inr (cause, error, h)) = record {
     records = h.records;
@@ -164,9 +157,9 @@ module _ (request : DavRequest) (update : Update) where
 
   module _ (old new : Store) (statuses : List ℕ) (h : StoresChanges request.path.key (patches_of update.1) old (Ok statuses) new) (answer : Answer) where
     -- it has answered, and memory ran out behind that
-    pub patch_untold : answer ≡ Err Memory → Patching request update old answer new
+    pub patch_untold : answer ≡ Err Memory → Patching profile request update old answer new
     patch_untold is = record { records = h.records; recorded = h.logged; fixed = h.fixed; done = inr (is, inr (statuses, h.stored)) }
 
     -- it has answered, and that is reported
-    pub patch_told : answer ≡ stored_answer request update (Ok statuses) → Patching request update old answer new
+    pub patch_told : answer ≡ stored_answer profile request update (Ok statuses) → Patching profile request update old answer new
     patch_told is = record { records = h.records; recorded = h.logged; fixed = h.fixed; done = inl (record { store_answer = Ok statuses; stored = h.stored; answered = is }) }

@@ -1,5 +1,6 @@
 -- What follows for its caller from each step of a PROPFIND.
 use Rattle.std.proofs.Common.{◌≡◌, ◌∙◌, ℕ, Bool, true, false, List, [], ◌∷◌, Some, Result, Ok, Err, refl, sym, ap, subst, if◌then◌else◌, arith}
+use Rattle.dav_resource.specs.declared.profile.Profile.{Profile}
 use Rattle.dav_resource.specs.declared.error.DavError.{DavError}
 use Rattle.dav_resource.specs.declared.error.DavError.TheVariants.{Memory}
 use Rattle.dav_resource.specs.declared.error.FsError.{FsError}
@@ -43,7 +44,7 @@ refused_lists_none : {A : Type 0} (recorded : Result A FsError) → AsksNoListin
 refused_lists_none (Ok a) = tt
 refused_lists_none (Err e) = tt
 
-module _ (held : Bodies) (request : DavRequest) (state : State) where
+module _ (profile : Profile) (held : Bodies) (request : DavRequest) (state : State) where
   abbrev wanted : Meta → Dialogue (Meta × Asking)
   wanted meta = judged (asking_of held request.body (user_agent_of request.headers)) >>= λ asking. Passed (meta, asking)
 
@@ -87,26 +88,26 @@ module _ (held : Bodies) (request : DavRequest) (state : State) where
       meta_is meta asking [] end = let same : found ≡ (meta, asking) = cc in ap (λ (f : Meta × Asking). f.0) (sym same)
       meta_is meta asking (r ∷ rest) end = absurd end
 
-  passed_rules : (head : List Logged) (found : Meta × Asking) → LeadsTo (propfind_rules held request state) head (Passed found) → PassedRules head found
+  passed_rules : (head : List Logged) (found : Meta × Asking) → LeadsTo (propfind_rules profile held request state) head (Passed found) → PassedRules head found
   passed_rules head found led = by_depth (is_too_deep request) refl led
     where
-      none_passed : (records : List Logged) → LeadsTo (Refuses (Ok finite_depth_reply)) records (Passed found) → PassedRules head found
+      none_passed : (records : List Logged) → LeadsTo (Refuses (Ok (finite_depth_reply profile))) records (Passed found) → PassedRules head found
       none_passed [] end = absurd cc
       none_passed (r ∷ records) end = absurd end
 
-      by_depth : (deep : Bool) → is_too_deep request ≡ deep → LeadsTo (if deep then Refuses (Ok finite_depth_reply) else sought_rules held request state) head (Passed found) → PassedRules head found
+      by_depth : (deep : Bool) → is_too_deep request ≡ deep → LeadsTo (if deep then Refuses (Ok (finite_depth_reply profile)) else sought_rules held request state) head (Passed found) → PassedRules head found
       by_depth true is end = none_passed head end
       by_depth false is end = passed_sought head found end
 
   -- a reply of the rules is that of 501
-  refused_rules : (records : List Logged) (reply : Reply) → LeadsTo (propfind_rules held request state) records (Refuses (Ok reply)) → reply ≡ finite_depth_reply
+  refused_rules : (records : List Logged) (reply : Reply) → LeadsTo (propfind_rules profile held request state) records (Refuses (Ok reply)) → reply ≡ (finite_depth_reply profile)
   refused_rules records reply led = by_depth (is_too_deep request) led
     where
-      finite : (rs : List Logged) → LeadsTo {A = Meta × Asking} (Refuses (Ok finite_depth_reply)) rs (Refuses (Ok reply)) → reply ≡ finite_depth_reply
+      finite : (rs : List Logged) → LeadsTo {A = Meta × Asking} (Refuses (Ok (finite_depth_reply profile))) rs (Refuses (Ok reply)) → reply ≡ (finite_depth_reply profile)
       finite [] end = cc
       finite (r ∷ rs) end = absurd end
 
-      by_depth : (deep : Bool) → LeadsTo (if deep then Refuses (Ok finite_depth_reply) else sought_rules held request state) records (Refuses (Ok reply)) → reply ≡ finite_depth_reply
+      by_depth : (deep : Bool) → LeadsTo (if deep then Refuses (Ok (finite_depth_reply profile)) else sought_rules held request state) records (Refuses (Ok reply)) → reply ≡ (finite_depth_reply profile)
       by_depth true end = finite records end
       by_depth false end = let e = errs_led AnyError (sought_rules held request state) records (Ok reply) errs_sought end in absurd (let no = e.1 in cc)
 
@@ -118,16 +119,16 @@ not_both status one other = omega (arith, one, other)
 module _ (settings : Settings) (request : DavRequest) (old new : State) (formed : IsWellFormed old.contents) where
   step_tells : (records : List Logged) (answer : Answer) → StepBy propfind_method settings request old records answer new → ReportsItsRange settings request old records answer
   step_tells records answer (Refused h) reply is recorded =
-      let finite : reply ≡ finite_depth_reply = refused_rules settings.facts.bodies request old records reply (subst (λ a. LeadsTo (propfind_rules settings.facts.bodies request old) records (Refuses a)) is h.head) in
+      let finite : reply ≡ finite_depth_reply settings.profile = refused_rules settings.profile settings.facts.bodies request old records reply (subst (λ a. LeadsTo (propfind_rules settings.profile settings.facts.bodies request old) records (Refuses a)) is h.head) in
       absurd (not_both reply.status (ap (λ (r : Reply). r.status) finite) recorded)
   step_tells records answer (Done h) reply is recorded =
-      let passed = passed_rules settings.facts.bodies request old h.head h.found h.passed in
+      let passed = passed_rules settings.profile settings.facts.bodies request old h.head h.found h.passed in
       let each : AreReported (view_in settings request old h.found.1.kind) old.contents h.found.1.asked request.path h.work.visits =
       reports_each old.contents formed request.path (view_in settings request old h.found.1.kind) h.found.1.asked (target_at request h.found.0) (depth_or_default request) h.rest h.work.visits h.work.searches passed.there refl in
       record {
         found = h.found;
         visits = h.work.visits;
-        shown = let same : Ok reply ≡ Ok (propfind_reply request h.found h.work.visits) = sym is ∙ h.work.answered in cc;
+        shown = let same : Ok reply ≡ Ok (propfind_reply settings.profile request h.found h.work.visits) = sym is ∙ h.work.answered in cc;
         range = subst (λ rs. ReportsRange old.contents (depth_or_default request) request.path.key rs (reported_keys h.work.visits)) (sym h.cut)
             (range_behind old.contents (depth_or_default request) request.path.key h.head h.rest (reported_keys h.work.visits) passed.none
             (reports_range old.contents formed (view_in settings request old h.found.1.kind) h.found.1.asked (target_at request h.found.0) (depth_or_default request) h.rest h.work.visits h.work.searches passed.there));

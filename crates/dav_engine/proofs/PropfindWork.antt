@@ -50,7 +50,7 @@ module _ (settings : Settings) (request : DavRequest) (meta : Meta) (asking : As
 
     -- the resources are reported
     pub performs_told : (writer : PropWriter) (reply : Reply) → WritesAt (with_prefixes asking.asked (property_multistatus [])) (Ok writer)
-        → reply ≡ record (bare_reply 207 (propfind_fields ++ location_fields request.path (Some meta))) { body = Body.Tree writer.tree }
+        → reply ≡ record (bare_reply 207 (propfind_fields settings.profile ++ location_fields request.path (Some meta))) { body = Body.Tree writer.tree }
         → Performs (PropfindWork settings request (meta, asking)) (PropfindCut settings request (meta, asking)) (over old locks) (Ok reply) (over new locks)
     performs_told writer reply h is = record {
       records = h.read.records;
@@ -65,7 +65,7 @@ module _ (settings : Settings) (request : DavRequest) (meta : Meta) (asking : As
         work (Some visits) searches wrote = record {
           visits = visits;
           searches = searches;
-          answered = ap Ok (is ∙ ap (λ (tree : Tree). record (bare_reply 207 (propfind_fields ++ location_fields request.path (Some meta))) { body = Body.Tree tree }) wrote);
+          answered = ap Ok (is ∙ ap (λ (tree : Tree). record (bare_reply 207 (propfind_fields settings.profile ++ location_fields request.path (Some meta))) { body = Body.Tree tree }) wrote);
           same = same_state locks old new h.read.same;
         }
         work None searches wrote = absurd wrote

@@ -1,5 +1,6 @@
 -- PROPFIND: its rules, and that it changes nothing.
 use Rattle.std.proofs.Common.{◌≡◌, ◌⊎◌, true, false, List, [], Some, Ok, Err, inl, inr, refl, sym, append-nil}
+use Rattle.dav_resource.specs.declared.profile.Profile.{Profile}
 use Rattle.dav_resource.specs.declared.error.DavError.{DavError}
 use Rattle.dav_resource.specs.declared.error.DavError.TheVariants.{Memory}
 use Rattle.dav_resource.specs.declared.meta.Meta.{Meta}
@@ -24,27 +25,27 @@ use Rattle.dav_engine.proofs.Passing.{found_passed}
 
 -- ---- the rules, judged
 
-module _ (held : Bodies) (request : DavRequest) (state : State) where
+module _ (profile : Profile) (held : Bodies) (request : DavRequest) (state : State) where
   -- a Depth of infinity is refused
-  pub reaches_finite : (store : Store) → is_too_deep request ≡ true → Reaches (propfind_rules held request state) store (Refuses (Ok finite_depth_reply)) store
+  pub reaches_finite : (store : Store) → is_too_deep request ≡ true → Reaches (propfind_rules profile held request state) store (Refuses (Ok (finite_depth_reply profile))) store
   reaches_finite store deep = rw deep (record { records = []; recorded = sym (append-nil store.log); same = refl; fixed = refl; leads = refl })
 
-  pub judges_lacking : (store : Store) → Judges (propfind_rules held request state) store (Err Memory) store
+  pub judges_lacking : (store : Store) → Judges (propfind_rules profile held request state) store (Err Memory) store
   judges_lacking store = judges_memory _ store (Err Memory) refl
 
   module _ (shallow : is_too_deep request ≡ false) (old mid : Store) where
     -- nothing is found
-    pub judges_missing : (e : DavError) → Judges (must_find state.contents request.path.key) old (Err e) mid → Judges (propfind_rules held request state) old (Err e) mid
+    pub judges_missing : (e : DavError) → Judges (must_find state.contents request.path.key) old (Err e) mid → Judges (propfind_rules profile held request state) old (Err e) mid
     judges_missing e h = rw shallow (judges_exit _ _ old mid e (Err e) refl h)
 
     module _ (meta : Meta) (h : Judges (must_find state.contents request.path.key) old (Ok meta) mid) where
       -- the body can't be read, or memory ran out
-      pub judges_unread_body : (e : DavError) → (asking_of held request.body (user_agent_of request.headers) ≡ Err e) ⊎ (e ≡ Memory) → Judges (propfind_rules held request state) old (Err e) mid
+      pub judges_unread_body : (e : DavError) → (asking_of held request.body (user_agent_of request.headers) ≡ Err e) ⊎ (e ≡ Memory) → Judges (propfind_rules profile held request state) old (Err e) mid
       judges_unread_body e (inl wrong) = rw shallow (judges_then _ _ old mid mid meta (Err e) h (judges_exit _ _ mid mid e (Err e) refl (judges_known _ (Err e) mid wrong)))
       judges_unread_body e (inr memory) = rw shallow (judges_then _ _ old mid mid meta (Err e) h (judges_memory _ mid (Err e) memory))
 
       -- what is asked for of what was found
-      pub judges_sought : (asking : Asking) → asking_of held request.body (user_agent_of request.headers) ≡ Ok asking → Judges (propfind_rules held request state) old (Ok (meta, asking)) mid
+      pub judges_sought : (asking : Asking) → asking_of held request.body (user_agent_of request.headers) ≡ Ok asking → Judges (propfind_rules profile held request state) old (Ok (meta, asking)) mid
       judges_sought asking is = rw shallow (judges_then _ _ old mid mid meta (Ok (meta, asking)) h (judges_then _ _ mid mid mid asking (Ok (meta, asking)) (judges_known _ (Ok asking) mid is) (judges_pure _ _ _ refl)))
 
       -- what was found is what is there

@@ -6,6 +6,7 @@ use Rattle.http.specs.declared.response.Response.{Response}
 use Rattle.dav_resource.specs.Gives.{GivesBy}
 use Rattle.dav_key.specs.Key.{Key, parent}
 use Rattle.dav_resource.specs.PathText.{PathValue}
+use Rattle.dav_resource.specs.declared.profile.Profile.{Profile}
 use Rattle.dav_resource.specs.declared.error.DavError.{DavError}
 use Rattle.dav_resource.specs.declared.error.DavError.TheVariants.{Memory}
 use Rattle.dav_resource.specs.declared.error.FsError.{FsError}
@@ -96,9 +97,9 @@ named_told : (names : List Item) (path : PathValue) (there : Option Meta) → na
 named_told [] path there some = absurd (some refl)
 named_told (item ∷ names) path there some = refl
 
-module _ {Done : State → List Logged → List Item → State → Type 0} {Cut : State → List Logged → State → Type 0} (work : IsWork Done Cut) (path : PathValue) (there : Option Meta) where
+module _ {Done : State → List Logged → List Item → State → Type 0} {Cut : State → List Logged → State → Type 0} (profile : Profile) (work : IsWork Done Cut) (path : PathValue) (there : Option Meta) where
   abbrev Works : Seen → Answer → Seen → Type 0
-  Works = Performs (TransferWork Done path there) Cut
+  Works = Performs (TransferWork profile Done path there) Cut
 
   -- nothing was begun
   pub transfer_unbegun : (seen : Seen) (result : Result (Response Body) DavError) → answer_of result ≡ Err Memory → Works seen (answer_of result) seen
@@ -111,16 +112,16 @@ module _ {Done : State → List Logged → List Item → State → Type 0} {Cut 
       Same : Type 0
       Same = ◌≡◌ {A = Answer} (Err Memory) (Err Memory)
 
-      by_end : NamesBy Done Cut (state_of old) h.records had has (Err Memory) (state_of new) → TransferWork Done path there (state_of old) h.records (Err Memory) (state_of new) ⊎ (Same × Cut (state_of old) h.records (state_of new))
+      by_end : NamesBy Done Cut (state_of old) h.records had has (Err Memory) (state_of new) → TransferWork profile Done path there (state_of old) h.records (Err Memory) (state_of new) ⊎ (Same × Cut (state_of old) h.records (state_of new))
       by_end (inl whole) = absurd (no_memory whole.0 whole.3)
       by_end (inr part) = inr (refl, part.1)
 
   module _ (old new : Seen) (has : List Item) (result : Result (Response Body) DavError) where
     abbrev Ends : List Logged → Type 0
-    Ends records = TransferWork Done path there (state_of old) records (answer_of result) (state_of new) ⊎ ((answer_of result ≡ Err Memory) × Cut (state_of old) records (state_of new))
+    Ends records = TransferWork profile Done path there (state_of old) records (answer_of result) (state_of new) ⊎ ((answer_of result ≡ Err Memory) × Cut (state_of old) records (state_of new))
 
     -- it ended with these names, and they are reported, or memory ran out behind it
-    recorded : (records : List Logged) (names : List Item) → Done (state_of old) records names (state_of new) → (answer_of result ≡ multi_answer path (transferred_items path there names)) ⊎ (answer_of result ≡ Err Memory) → Ends records
+    recorded : (records : List Logged) (names : List Item) → Done (state_of old) records names (state_of new) → (answer_of result ≡ multi_answer profile path (transferred_items path there names)) ⊎ (answer_of result ≡ Err Memory) → Ends records
     recorded records names done (inl is) = inl (record { names = names; done = done; answered = is })
     recorded records names done (inr memory) = inr (memory, work.so_far (state_of old) (state_of new) records names done)
 
@@ -133,7 +134,7 @@ module _ {Done : State → List Logged → List Item → State → Type 0} {Cut 
         by_end (inr part) = absurd cc
 
     -- nothing is named, and that is reported
-    pub transfer_done : Names Done Cut old [] has (Ok tt) new → (items : List Item) → items ≡ has ++ (path, if is_some there then 204 else 201) ∷ [] → GivesBy reply_of result (multi_answer path items) → Works old (answer_of result) new
+    pub transfer_done : Names Done Cut old [] has (Ok tt) new → (items : List Item) → items ≡ has ++ (path, if is_some there then 204 else 201) ∷ [] → GivesBy reply_of result (multi_answer profile path items) → Works old (answer_of result) new
     transfer_done h items added given = record { records = h.records; recorded = h.recorded; fixed = h.fixed; done = by_end h.done }
       where
         by_end : NamesBy Done Cut (state_of old) h.records [] has (Ok tt) (state_of new) → Ends h.records
@@ -141,17 +142,17 @@ module _ {Done : State → List Logged → List Item → State → Type 0} {Cut 
             let none = none_named whole.0 whole.3 in
             let all : items ≡ transferred_items path there whole.0 =
             added ∙ ap (λ l. l ++ (path, if is_some there then 204 else 201) ∷ []) (whole.1 ∙ none) ∙ sym (ap (transferred_items path there) none) in
-            recorded h.records whole.0 whole.2 (answered result _ (subst (λ l. GivesBy reply_of result (multi_answer path l)) all given))
+            recorded h.records whole.0 whole.2 (answered result _ (subst (λ l. GivesBy reply_of result (multi_answer profile path l)) all given))
         by_end (inr part) = absurd cc
 
     -- something is named
-    pub transfer_named : (e : DavError) → e ≢ Memory → Names Done Cut old [] has (Err e) new → GivesBy reply_of result (multi_answer path has) → Works old (answer_of result) new
+    pub transfer_named : (e : DavError) → e ≢ Memory → Names Done Cut old [] has (Err e) new → GivesBy reply_of result (multi_answer profile path has) → Works old (answer_of result) new
     transfer_named e other h given = record { records = h.records; recorded = h.recorded; fixed = h.fixed; done = by_end h.done }
       where
         by_end : NamesBy Done Cut (state_of old) h.records [] has (Err e) (state_of new) → Ends h.records
         by_end (inl whole) =
             let all : has ≡ transferred_items path there whole.0 = whole.1 ∙ sym (named_told whole.0 path there (some_named e whole.0 whole.3)) in
-            recorded h.records whole.0 whole.2 (answered result _ (subst (λ l. GivesBy reply_of result (multi_answer path l)) all given))
+            recorded h.records whole.0 whole.2 (answered result _ (subst (λ l. GivesBy reply_of result (multi_answer profile path l)) all given))
         by_end (inr part) = absurd (other (let same : e ≡ Memory = cc in same))
 
 -- ---- what follows where the destination is cleared

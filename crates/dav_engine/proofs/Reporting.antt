@@ -188,15 +188,15 @@ module _ (settings : Settings) (request : DavRequest) (old : State) (records : L
         ap (filter_map (removal_item path)) cut ∙ filter_map-append (removal_item path) head rest
         ∙ ap (λ l. l ++ filter_map (removal_item path) rest) (none_given (removal_item path) head (λ r i. looks_no_removal path r (looks_led (delete_rules request old) (Passed meta) head (delete_looks request old) passed r i)))
 
-    deleted : DeleteWork request meta old rest answer new → DeleteReports request old records answer
+    deleted : DeleteWork settings.profile request meta old rest answer new → DeleteReports settings request old records answer
     deleted work reply replied =
-        subst (λ p. Reports p (filter_map (removal_item p) records) (reported_items p) reply) (ap (fixed_path request.path) (sym (delete_finds request old head meta passed))) (record {
+        subst (λ p. Reports settings.profile p (filter_map (removal_item p) records) (reported_items p) reply) (ap (fixed_path request.path) (sym (delete_finds request old head meta passed))) (record {
           names = work.names;
           each = subst (λ l. IsPermutation l work.names) (sym removal_alone) (removal_named path old.contents new.contents rest work.names (depth_or_all request) work.removed);
           answered = sym work.answered ∙ replied;
         })
 
-  delete_answered : StepBy delete_method settings request old records answer new → DeleteReports request old records answer
+  delete_answered : StepBy delete_method settings request old records answer new → DeleteReports settings request old records answer
   delete_answered (ByRules h) reply replied =
       let refused = errs_led AnyError (delete_rules request old) records answer (errs_delete request old) h.head in
       no_response answer refused.0 reply refused.1 replied
@@ -245,20 +245,20 @@ module _ (settings : Settings) (request : DavRequest) (old : State) (lawful : Is
         ∙ ap (λ l. l ++ filter_map (move_item move_path found.destination) rest)
         (none_given (move_item move_path found.destination) head (λ r i. looks_no_move move_path found.destination r (looks_led (transfer_rules true settings request old) (Passed found) head (transfer_looks request old true settings) passed r i)))
 
-    moved : MoveWork request found old rest answer new → MoveReports settings request old records answer
+    moved : MoveWork settings.profile request found old rest answer new → MoveReports settings request old records answer
     moved work reply replied =
         let rules = move_passed settings request old head found passed in
         let may = rules.may lawful.contents in
         let each =
         replaces_named (move_item move_path found.destination) found.destination (move_is_named move_path found.destination) (MovesSource move_path found.destination) (is_some found.there) old new rest work.names work.done
         (λ mid more follows. renames_named move_path found.destination mid.contents new.contents more work.names follows.renamed) in
-        let reports : Reports move_path (filter_map (move_item move_path found.destination) records) (transferred_items move_path found.there) reply =
+        let reports : Reports settings.profile move_path (filter_map (move_item move_path found.destination) records) (transferred_items move_path found.there) reply =
         record { names = work.names; each = subst (λ l. IsPermutation l work.names) (sym move_alone) each; answered = sym work.answered ∙ replied } in
         record {
           destination = found.destination;
           named = asked_so settings request found.destination (reach_verdict true (depth_or_all request)) rules.asked;
-          reports = subst (λ p. Reports p (filter_map (move_item p found.destination) records) (transferred_items p (old.contents.metas found.destination.key)) reply) (ap (fixed_path request.path) (sym may.source_there))
-              (subst (λ there. Reports move_path (filter_map (move_item move_path found.destination) records) (transferred_items move_path there) reply) (sym may.known) reports);
+          reports = subst (λ p. Reports settings.profile p (filter_map (move_item p found.destination) records) (transferred_items p (old.contents.metas found.destination.key)) reply) (ap (fixed_path request.path) (sym may.source_there))
+              (subst (λ there. Reports settings.profile move_path (filter_map (move_item move_path found.destination) records) (transferred_items move_path there) reply) (sym may.known) reports);
         }
 
   move_answered : StepBy move_method settings request old records answer new → MoveReports settings request old records answer
@@ -507,11 +507,11 @@ module _ (settings : Settings) (request : DavRequest) (old : State) (lawful : Is
     abbrev ItemsOf : PathValue → List Item
     ItemsOf path = copy_items (depth_or_all request) path found.destination old.contents.tree false rest
 
-    copied_so : CopyWork request found old rest answer new → CopyReports settings request old records answer
+    copied_so : CopyWork settings.profile request found old rest answer new → CopyReports settings request old records answer
     copied_so work reply replied =
         let rules = copy_passed settings request old head found passed in
         let may = rules.may lawful.contents in
-        let reports : Reports from (ItemsOf from) (transferred_items from found.there) reply =
+        let reports : Reports settings.profile from (ItemsOf from) (transferred_items from found.there) reply =
         record { names = work.names; each = copies_named (depth_or_all request) from found old new rest work.names work.done; answered = sym work.answered ∙ replied } in
         record {
           head = head;
@@ -520,8 +520,8 @@ module _ (settings : Settings) (request : DavRequest) (old : State) (lawful : Is
           found = found;
           passed = passed;
           named = asked_so settings request found.destination (reach_verdict false (depth_or_all request)) rules.asked;
-          reports = subst (λ p. Reports p (ItemsOf p) (transferred_items p (old.contents.metas found.destination.key)) reply) (ap (fixed_path request.path) (sym may.source_there))
-              (subst (λ there. Reports from (ItemsOf from) (transferred_items from there) reply) (sym may.known) reports);
+          reports = subst (λ p. Reports settings.profile p (ItemsOf p) (transferred_items p (old.contents.metas found.destination.key)) reply) (ap (fixed_path request.path) (sym may.source_there))
+              (subst (λ there. Reports settings.profile from (ItemsOf from) (transferred_items from there) reply) (sym may.known) reports);
         }
 
   copy_answered : StepBy copy_method settings request old records answer new → CopyReports settings request old records answer
@@ -534,7 +534,7 @@ module _ (settings : Settings) (request : DavRequest) (old : State) (lawful : Is
 
 -- ---- of a step
 
-pub delete_reports : {settings : Settings} {request : DavRequest} {old : State} {records : List Logged} {answer : Answer} {new : State} → IsLawfulState old → StepBy delete_method settings request old records answer new → DeleteReports request old records answer
+pub delete_reports : {settings : Settings} {request : DavRequest} {old : State} {records : List Logged} {answer : Answer} {new : State} → IsLawfulState old → StepBy delete_method settings request old records answer new → DeleteReports settings request old records answer
 delete_reports {settings} {request} {old} {records} {answer} {new} lawful step = delete_answered settings request old records answer new step
 
 pub move_reports : {settings : Settings} {request : DavRequest} {old : State} {records : List Logged} {answer : Answer} {new : State} → IsLawfulState old → StepBy move_method settings request old records answer new → MoveReports settings request old records answer

@@ -308,7 +308,7 @@ untouched_copy = step_untouched copy_method leaves
             copy_untouched source found.destination mid.contents new.contents rest left depth found.destination.key
             (whole_copy_in_part depth source found.destination found.destination.key mid.contents new.contents rest names w.copied)
 
-        by_end : CopyWork request found old records answer new ⊎ ((answer ≡ Err Memory) × CopyCut request found old records new) → new.contents ≡ old.contents
+        by_end : CopyWork settings.profile request found old records answer new ⊎ ((answer ≡ Err Memory) × CopyCut request found old records new) → new.contents ≡ old.contents
         by_end (inl work) =
             replaced_untouched (is_some (replaced depth found.there)) found.destination old new records none (CopiesSource depth source found.destination) work.names (whole work.names) work.done
         by_end (inr cut) = replaced_part_untouched (is_some (replaced depth found.there)) found.destination old new records none (CopiesSourceInPart depth source found.destination) part cut.1
@@ -329,6 +329,6 @@ untouched_move = step_untouched move_method leaves
         part mid rest (inl nothing) left = same_contents mid new nothing.1
         part mid rest (inr (names, w)) left = whole names mid rest w left
 
-        by_end : MoveWork request found old records answer new ⊎ ((answer ≡ Err Memory) × MoveCut request found old records new) → new.contents ≡ old.contents
+        by_end : MoveWork settings.profile request found old records answer new ⊎ ((answer ≡ Err Memory) × MoveCut request found old records new) → new.contents ≡ old.contents
         by_end (inl work) = replaced_untouched (is_some found.there) found.destination old new records none (MovesSource source found.destination) work.names (whole work.names) work.done
         by_end (inr cut) = replaced_part_untouched (is_some found.there) found.destination old new records none (MovesInPart source found.destination) part cut.1

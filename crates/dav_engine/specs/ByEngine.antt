@@ -58,7 +58,7 @@ module _ {C F L : Type 0} (see_store : F → Store) where
 
   -- the changes of a PROPPATCH were made (`Patching`)
   abbrev pub PatchedBy : DavRequest → Update → DavInner C F L → Answer → DavInner C F L → Type 0
-  PatchedBy request update old answer new = Patching request update (see_store (lent old)) answer (see_store (lent new))
+  PatchedBy request update old answer new = Patching old.profile request update (see_store (lent old)) answer (see_store (lent new))
 
   -- unless the source is `topdest` itself, the copy came to its end, or was stopped because memory ran out (`Copying`)
   abbrev pub CopyingBy : Depth → PathValue → PathValue → PathValue → DavInner C F L → List Item → List Item → Result (Unit {0}) DavError → DavInner C F L → Type 0

@@ -3,6 +3,7 @@ use Rattle.std.specs.Prelude.{◌≡◌, ◌≢◌, true, false, not, ◌||◌, 
 use Rattle.std.specs.FinMap.{get}
 use Rattle.dav_key.specs.Key.{Key, parent}
 use Rattle.dav_resource.specs.PathText.{PathValue}
+use Rattle.dav_resource.specs.declared.profile.Profile.{Profile}
 use Rattle.dav_resource.specs.declared.meta.Meta.{Meta}
 use Rattle.dav_resource.specs.declared.request.Depth.{Depth}
 use Rattle.dav_resource.specs.declared.request.DavRequest.{DavRequest}
@@ -49,8 +50,8 @@ abbrev pub CopiesSoFar : Depth → PathValue → Transfer → State → List Log
 CopiesSoFar depth source found = ReplacesInPart (CopiesSourceInPart depth source found.destination) (is_some (replaced depth found.there)) found.destination
 
 -- what exists at the destination is removed and the source is copied, as far as the store allows (`Copies`), and the result reports the failures
-abbrev pub CopyWork : DavRequest → Transfer → State → List Logged → Answer → State → Type 0
-CopyWork request found = TransferWork (Copies (depth_or_all request) (source_path request found) found) (source_path request found) found.there
+abbrev pub CopyWork : Profile → DavRequest → Transfer → State → List Logged → Answer → State → Type 0
+CopyWork profile request found = TransferWork profile (Copies (depth_or_all request) (source_path request found) found) (source_path request found) found.there
 
 -- what a COPY leaves when memory runs out
 abbrev pub CopyCut : DavRequest → Transfer → State → List Logged → State → Type 0

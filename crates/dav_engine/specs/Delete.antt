@@ -1,6 +1,7 @@
 -- DELETE (RFC 4918, section 9.6): removes a resource and everything below it.
 use Rattle.std.specs.Prelude.{◌≡◌, ◌⊎◌, true, List, [], ◌∷◌, Some}
 use Rattle.dav_resource.specs.PathText.{PathValue}
+use Rattle.dav_resource.specs.declared.profile.Profile.{Profile}
 use Rattle.dav_resource.specs.declared.meta.Meta.{Meta}
 use Rattle.dav_resource.specs.declared.request.DavRequest.{DavRequest}
 use Rattle.dav_store.specs.Logged.{Logged}
@@ -35,11 +36,11 @@ LeavesLocks (item ∷ names) path old new = LocksStay old new
 
 -- The resource and, unless Depth is 0, everything below it are removed as far as the store allows. Each failure is reported with its status. The
 -- locks are as in `LeavesLocks`.
-pub record DeleteWork (request : DavRequest) (meta : Meta) (old : State) (records : List Logged) (answer : Answer) (new : State) : Type 0 where
+pub record DeleteWork (profile : Profile) (request : DavRequest) (meta : Meta) (old : State) (records : List Logged) (answer : Answer) (new : State) : Type 0 where
   pub names : List Item
   pub removed : Removes (depth_or_all request) (fixed_path request.path (Some meta)) old.contents new.contents records names
   pub locks : LeavesLocks names request.path old new
-  pub answered : answer ≡ multi_answer (fixed_path request.path (Some meta)) (reported_items (fixed_path request.path (Some meta)) names)
+  pub answered : answer ≡ multi_answer profile (fixed_path request.path (Some meta)) (reported_items (fixed_path request.path (Some meta)) names)
 
 -- Memory ran out: what was removed stays removed. The locks are unchanged; or the whole removal was done without a failure, and the locks at or below
 -- the path are removed too (`DropsLocks`).

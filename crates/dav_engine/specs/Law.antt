@@ -17,7 +17,7 @@ abbrev pub MethodLaw : Option DavMethod → Settings → DavRequest → State �
 MethodLaw (Some MkCol) settings request old records answer new = MkcolLaw request old answer new
 MethodLaw (Some Put) settings request old records answer new = PutLaw settings.facts.bodies false request old answer new
 MethodLaw (Some Patch) settings request old records answer new = PutLaw settings.facts.bodies true request old answer new
-MethodLaw (Some Delete) settings request old records answer new = DeleteLaw request old records answer new
+MethodLaw (Some Delete) settings request old records answer new = DeleteLaw settings request old records answer new
 MethodLaw (Some Copy) settings request old records answer new = CopyLaw settings request old records answer new
 MethodLaw (Some Move) settings request old records answer new = MoveLaw settings request old records answer new
 MethodLaw (Some Lock) settings request old records answer new = LockLaw settings request old answer new

@@ -23,7 +23,7 @@ use Rattle.dav_store.specs.Calls.{bytes_at}
 use Rattle.dav_store.specs.LockCalls.{without_named}
 use Rattle.dav_store.specs.Locks.{is_at_or_below, at_or_below}
 use Rattle.dav_store.specs.Logged.{Logged}
-use Rattle.dav_store.specs.PropertyCalls.{properties_at, patched}
+use Rattle.dav_store.specs.PropertyCalls.{HasTimes, properties_at, patched}
 use Rattle.dav_store.specs.Store.{Contents, Bodies, File, Directory, property_key}
 use Rattle.dav_store.specs.Transfers.{IsRenamedTo}
 use Rattle.dav_store.specs.declared.lock.DavLock.{DavLock}
@@ -91,10 +91,10 @@ abbrev pub KeepsLocksUnlessGone : DavRequest → State → Answer → State → 
 KeepsLocksUnlessGone request old answer new = LocksStay old new ⊎ IsGoneWithLocks request old answer new
 
 -- what a DELETE leaves and reports, by its result
-pub record DeleteLaw (request : DavRequest) (old : State) (records : List Logged) (answer : Answer) (new : State) : Type 0 where
+pub record DeleteLaw (settings : Settings) (request : DavRequest) (old : State) (records : List Logged) (answer : Answer) (new : State) : Type 0 where
   pub emptied : EmptiesPath request old answer new
   pub locks : KeepsLocksUnlessGone request old answer new
-  pub reports : DeleteReports request old records answer
+  pub reports : DeleteReports settings request old records answer
 
 -- ---- MKCOL
 
@@ -293,12 +293,13 @@ statuses_of changes given =
     if some_refused changes then map status_beside_refused (live_first changes)
     else map (λ change. 200) (filter is_passed_over changes) ++ given
 
--- The dead properties among these changes are set and removed at the path, in order. No other dead property, no file, no directory and no lock
--- changes.
+-- The dead properties among these changes are set and removed at the path, in order, and each time that they set is the path's. No other dead
+-- property, no file, no directory and no lock changes.
 pub record AreStored (request : DavRequest) (changes : List Change) (old new : State) : Type 0 where
   pub here : properties_at new.contents request.path.key ≡ patched (patches_of changes) (properties_at old.contents request.path.key)
   pub elsewhere : (key : Key) → key ≢ request.path.key → properties_at new.contents key ≡ properties_at old.contents key
   pub tree : new.contents.tree ≡ old.contents.tree
+  pub times : HasTimes (patches_of changes) (new.contents.metas request.path.key)
   pub locks : LocksStay old new
 
 -- the name of an element's property, as a key: its namespace and its local name
@@ -319,7 +320,7 @@ all_ok reported = list_all (λ (t : PropertyStatus). nat_eq t.0 200) reported
 
 -- the body requests these changes
 abbrev pub AreAsked : Settings → DavRequest → List Change → Type 0
-AreAsked settings request changes = update_verdict settings.facts.keeps_properties request.body ≡ Ok changes
+AreAsked settings request changes = update_verdict settings.profile settings.facts.keeps_properties request.body ≡ Ok changes
 
 -- The response reports each change in the body once (`each`), with its own status (`own`), grouped by status. If each status is 200, the changes are
 -- stored (`AreStored`); otherwise nothing changes, even for a property whose status is 200.
@@ -330,7 +331,7 @@ pub record StoresAllOrNothing (settings : Settings) (request : DavRequest) (old 
   pub reported : List PropertyStatus
   pub each : ReportsEach changes reported
   pub own : ReportsOwn request records changes reported
-  pub shown : reply ≡ proppatch_reply request.path (old.contents.metas request.path.key) (grouped reported)
+  pub shown : reply ≡ proppatch_reply settings.profile request.path (old.contents.metas request.path.key) (grouped reported)
   pub stored : all_ok reported ≡ true → AreStored request changes old new
   pub unstored : all_ok reported ≡ false → ChangesNothing old new
 
@@ -364,7 +365,7 @@ pub record ProppatchLaw (settings : Settings) (request : DavRequest) (old : Stat
 pub record ShowsRange (settings : Settings) (request : DavRequest) (old : State) (records : List Logged) (reply : Reply) : Type 0 where
   pub found : Meta × Asking
   pub visits : List Visit
-  pub shown : reply ≡ propfind_reply request found visits
+  pub shown : reply ≡ propfind_reply settings.profile request found visits
   pub there : old.contents.metas request.path.key ≡ Some found.0
   pub range : ReportsRange old.contents (depth_or_default request) request.path.key records (reported_keys visits)
   pub order : IsDepthFirst settings.facts.shows old.contents records (depth_or_default request) request.path.key (reported_keys visits)

@@ -46,13 +46,13 @@ write_method partial =
     }
 
 abbrev pub delete_method : Method
-delete_method = record { Found = Meta; rules = λ settings. delete_rules; Work = λ settings. DeleteWork; Cut = λ settings. DeleteCut }
+delete_method = record { Found = Meta; rules = λ settings. delete_rules; Work = λ settings. DeleteWork settings.profile; Cut = λ settings. DeleteCut }
 
 abbrev pub copy_method : Method
-copy_method = record { Found = Transfer; rules = transfer_rules false; Work = λ settings. CopyWork; Cut = λ settings. CopyCut }
+copy_method = record { Found = Transfer; rules = transfer_rules false; Work = λ settings. CopyWork settings.profile; Cut = λ settings. CopyCut }
 
 abbrev pub move_method : Method
-move_method = record { Found = Transfer; rules = transfer_rules true; Work = λ settings. MoveWork; Cut = λ settings. MoveCut }
+move_method = record { Found = Transfer; rules = transfer_rules true; Work = λ settings. MoveWork settings.profile; Cut = λ settings. MoveCut }
 
 abbrev pub lock_method : Method
 lock_method =
@@ -70,8 +70,8 @@ abbrev pub proppatch_method : Method
 proppatch_method =
     record {
       Found = Update;
-      rules = λ settings. proppatch_rules settings.facts.keeps_properties;
-      Work = λ settings request found. OnStore (ProppatchWork settings.facts.keeps_properties request found);
+      rules = λ settings. proppatch_rules settings.profile settings.facts.keeps_properties;
+      Work = λ settings request found. OnStore (ProppatchWork settings.profile settings.facts.keeps_properties request found);
       Cut = λ settings request found. CutOnStore (ProppatchCut settings.facts.keeps_properties request found);
     }
 
@@ -79,7 +79,7 @@ abbrev pub options_method : Method
 options_method = record { Found = Option Meta; rules = λ settings. options_rules; Work = λ settings. OptionsWork settings.allow; Cut = λ settings request found. Unbegun }
 
 abbrev pub propfind_method : Method
-propfind_method = record { Found = Meta × Asking; rules = λ settings. propfind_rules settings.facts.bodies; Work = PropfindWork; Cut = PropfindCut }
+propfind_method = record { Found = Meta × Asking; rules = λ settings. propfind_rules settings.profile settings.facts.bodies; Work = PropfindWork; Cut = PropfindCut }
 
 -- a method that is not served: the result is 501, no call is made, and nothing changes
 pub record IsUnserved (old : State) (records : List Logged) (answer : Answer) (new : State) : Type 0 where

@@ -4,6 +4,7 @@ use Rattle.std.specs.FinMap.{get}
 use Rattle.dav_resource.specs.Errors.{fs_status}
 use Rattle.dav_key.specs.Key.{Key, parent}
 use Rattle.dav_resource.specs.PathText.{PathValue}
+use Rattle.dav_resource.specs.declared.profile.Profile.{Profile}
 use Rattle.dav_resource.specs.declared.error.DavError.{DavError}
 use Rattle.dav_resource.specs.declared.error.DavError.TheVariants.{Memory}
 use Rattle.dav_resource.specs.declared.error.FsError.{FsError}
@@ -82,8 +83,8 @@ abbrev pub MovesSoFar : PathValue → Transfer → State → List Logged → Sta
 MovesSoFar source found = ReplacesInPart (MovesInPart source found.destination) (is_some found.there) found.destination
 
 -- what exists at the destination is removed and the source is moved, as far as the store allows (`Moves`), and the result reports the failures
-abbrev pub MoveWork : DavRequest → Transfer → State → List Logged → Answer → State → Type 0
-MoveWork request found = TransferWork (Moves (source_path request found) found) (source_path request found) found.there
+abbrev pub MoveWork : Profile → DavRequest → Transfer → State → List Logged → Answer → State → Type 0
+MoveWork profile request found = TransferWork profile (Moves (source_path request found) found) (source_path request found) found.there
 
 -- what a MOVE leaves when memory runs out
 abbrev pub MoveCut : DavRequest → Transfer → State → List Logged → State → Type 0

@@ -6,6 +6,7 @@ use Rattle.dav_key.specs.Key.{Key}
 use Rattle.dav_resource.specs.declared.error.DavError.{DavError}
 use Rattle.dav_resource.specs.declared.error.DavError.TheVariants.{Memory}
 use Rattle.dav_resource.specs.declared.error.FsError.{FsError}
+use Rattle.dav_resource.specs.declared.profile.Profile.{Profile}
 use Rattle.dav_resource.specs.declared.request.DavRequest.{DavRequest}
 use Rattle.dav_store.specs.Logged.{Logged}
 use Rattle.dav_store.specs.PropertyCalls.{Patch}
@@ -31,6 +32,6 @@ Storing key patches old (Ok statuses) new = StoresChanges key patches old (Ok st
 Storing key patches old (Err e) new = IsUnmade key patches old e new
 
 -- the whole work, or work that stopped because memory ran out
-abbrev pub Patching : DavRequest → Update → Store → Answer → Store → Type 0
-Patching request update old =
-    WorksOnStore (ProppatchWork old.facts.keeps_properties request update) (ProppatchCut old.facts.keeps_properties request update) old
+abbrev pub Patching : Profile → DavRequest → Update → Store → Answer → Store → Type 0
+Patching profile request update old =
+    WorksOnStore (ProppatchWork profile old.facts.keeps_properties request update) (ProppatchCut old.facts.keeps_properties request update) old

@@ -3,8 +3,10 @@ use Rattle.std.specs.Prelude.{◌≡◌, ◌⊎◌, not, ◌&&◌, Bool, if◌th
 use Rattle.http.specs.declared.version.TheConstants.Version.{HTTP_11}
 use Rattle.http_header.specs.HeaderMap.{Entries}
 use Rattle.http_header.specs.FieldValue.{FieldValue}
+use Rattle.dav_resource.specs.Profile.{xml_type}
 use Rattle.dav_resource.specs.Tree.{Tree, prefixed_element}
 use Rattle.dav_resource.specs.declared.meta.Meta.{Meta}
+use Rattle.dav_resource.specs.declared.profile.Profile.{Profile}
 use Rattle.dav_resource.specs.declared.request.Body.{Body}
 use Rattle.dav_resource.specs.declared.request.DavRequest.{DavRequest}
 use Rattle.dav_resource.specs.declared.request.Depth.{Depth}
@@ -15,7 +17,6 @@ use Rattle.dav_store.specs.Logged.{Logged}
 use Rattle.dav_store.specs.Store.{Bodies}
 use Rattle.dav_messages.specs.DavElement.{declaring_element, with_elements}
 use Rattle.dav_messages.specs.Dialogue.{Dialogue, Passed, Refuses, ◌>>=◌}
-use Rattle.dav_messages.specs.Multistatus.{xml_type}
 use Rattle.dav_messages.specs.Reply.{Reply, Answer, field}
 use Rattle.dav_props.specs.Propstat.{property_multistatus}
 use Rattle.dav_walks.specs.declared.listing.Resource.{Resource}
@@ -46,24 +47,24 @@ is_too_deep request = is_infinite (depth_or_default request) && not (is_some (li
 abbrev pub uncached_fields : Entries FieldValue
 uncached_fields = field (codes "cache-control") (codes "no-cache") ∷ field (codes "pragma") (codes "no-cache") ∷ []
 
-abbrev pub propfind_fields : Entries FieldValue
-propfind_fields = uncached_fields ++ field (codes "content-type") xml_type ∷ []
+abbrev pub propfind_fields : Profile → Entries FieldValue
+propfind_fields profile = uncached_fields ++ field (codes "content-type") (xml_type profile) ∷ []
 
 -- the precondition that Depth infinity fails, `propfind-finite-depth` (RFC 4918, section 16)
 abbrev pub finite_depth_error : Tree
 finite_depth_error = with_elements (declaring_element (codes "D:error")) (prefixed_element (codes "D:propfind-finite-depth") ∷ [])
 
-abbrev pub finite_depth_reply : Reply
-finite_depth_reply = record { status = 501; version = HTTP_11; headers = propfind_fields; body = Body.Tree finite_depth_error }
+abbrev pub finite_depth_reply : Profile → Reply
+finite_depth_reply profile = record { status = 501; version = HTTP_11; headers = propfind_fields profile; body = Body.Tree finite_depth_error }
 
 -- 207, with a response element for each reported resource
-abbrev pub propfind_reply : DavRequest → Meta × Asking → List Visit → Reply
-propfind_reply request found visits =
+abbrev pub propfind_reply : Profile → DavRequest → Meta × Asking → List Visit → Reply
+propfind_reply profile request found visits =
     record {
       status = 207;
       version = HTTP_11;
-      headers = propfind_fields ++ location_fields request.path (Some found.0);
-      body = Body.Tree (with_elements (with_prefixes found.1.asked (property_multistatus [])) (map response_of visits));
+      headers = propfind_fields profile ++ location_fields request.path (Some found.0);
+      body = Body.Tree (with_elements (with_prefixes found.1.asked (property_multistatus [])) (map (response_of profile) visits));
     }
 
 -- ---- the rules
@@ -76,8 +77,9 @@ sought_rules held request state =
     Passed (meta, asking)
 
 -- Depth infinity is rejected first, by a response (501), except for litmus; then `sought_rules` apply
-abbrev pub propfind_rules : Bodies → DavRequest → State → Dialogue (Meta × Asking)
-propfind_rules held request state = if is_too_deep request then Refuses (Ok finite_depth_reply) else sought_rules held request state
+abbrev pub propfind_rules : Profile → Bodies → DavRequest → State → Dialogue (Meta × Asking)
+propfind_rules profile held request state =
+    if is_too_deep request then Refuses (Ok (finite_depth_reply profile)) else sought_rules held request state
 
 -- ---- the work
 
@@ -108,7 +110,7 @@ Searches settings request found old records end =
 pub record PropfindWork (settings : Settings) (request : DavRequest) (found : Meta × Asking) (old : State) (records : List Logged) (answer : Answer) (new : State) : Type 0 where
   pub visits : List Visit
   pub searches : Searches settings request found old records (Some visits)
-  pub answered : answer ≡ Ok (propfind_reply request found visits)
+  pub answered : answer ≡ Ok (propfind_reply settings.profile request found visits)
   pub same : new ≡ old
 
 -- memory ran out, and nothing changes

@@ -5,9 +5,11 @@ use Rattle.http.specs.declared.version.TheConstants.Version.{HTTP_11}
 use Rattle.dav_resource.specs.Errors.{from_fs}
 use Rattle.dav_key.specs.Key.{Key}
 use Rattle.dav_resource.specs.PathText.{PathValue}
+use Rattle.dav_resource.specs.Profile.{xml_type}
 use Rattle.dav_resource.specs.declared.error.FsError.{FsError}
 use Rattle.dav_resource.specs.declared.error.FsError.TheVariants.{GeneralFailure}
 use Rattle.dav_resource.specs.declared.meta.Meta.{Meta}
+use Rattle.dav_resource.specs.declared.profile.Profile.{Profile}
 use Rattle.dav_resource.specs.declared.record.Op.TheVariants.{PatchProps}
 use Rattle.dav_resource.specs.declared.record.Outcome.{Outcome}
 use Rattle.dav_resource.specs.declared.record.Outcome.TheVariants.{Granted, Refused}
@@ -18,7 +20,6 @@ use Rattle.dav_store.specs.Logged.{Logged}
 use Rattle.dav_store.specs.PropertyCalls.{Patch, properties_bar, patch_record, IsPatchedAt}
 use Rattle.dav_store.specs.Store.{Contents}
 use Rattle.dav_messages.specs.Dialogue.{Dialogue, Passed, Refuses, ◌>>=◌}
-use Rattle.dav_messages.specs.Multistatus.{xml_type}
 use Rattle.dav_messages.specs.Reply.{Reply, Answer, field}
 use Rattle.dav_props.specs.Propstat.{Group, grouped, property_response, property_multistatus}
 use Rattle.dav_props.specs.Update.{Change, update_verdict, some_refused, patches_of, failed_report, made_report}
@@ -30,13 +31,13 @@ use Rattle.dav_engine.specs.State.{State}
 -- ---- the response
 
 -- 207, with one response element that reports the properties, grouped by status
-abbrev pub proppatch_reply : PathValue → Option Meta → List Group → Reply
-proppatch_reply path found groups =
+abbrev pub proppatch_reply : Profile → PathValue → Option Meta → List Group → Reply
+proppatch_reply profile path found groups =
     record {
       status = 207;
       version = HTTP_11;
-      headers = field (codes "content-type") xml_type ∷ location_fields path found;
-      body = Body.Tree (property_multistatus (property_response (fixed_path path found) groups ∷ []));
+      headers = field (codes "content-type") (xml_type profile) ∷ location_fields path found;
+      body = Body.Tree (property_multistatus (property_response profile (fixed_path path found) groups ∷ []));
     }
 
 -- ---- the rules
@@ -50,16 +51,16 @@ abbrev pub found_rules : DavRequest → State → Dialogue (Option Meta)
 found_rules request state = must_find state.contents request.path.key >>= λ meta. path_rules request state (Some meta)
 
 -- if some change is rejected before the store is asked, the request ends with a response that reports all changes as failed
-abbrev pub unless_some_refused : DavRequest → Option Meta → List Change → Dialogue Update
-unless_some_refused request found changes =
-    if some_refused changes then Refuses (Ok (proppatch_reply request.path found (grouped (failed_report changes)))) else Passed (found, changes)
+abbrev pub unless_some_refused : Profile → DavRequest → Option Meta → List Change → Dialogue Update
+unless_some_refused profile request found changes =
+    if some_refused changes then Refuses (Ok (proppatch_reply profile request.path found (grouped (failed_report changes)))) else Passed (found, changes)
 
--- after `found_rules` the body is read, and each change gets its status before the store is asked; the status depends on whether the store supports
--- dead properties
-abbrev pub proppatch_rules : Bool → DavRequest → State → Dialogue Update
-proppatch_rules keeps request state =
+-- after `found_rules` the body is read, and each change gets its status before the store is asked; the status depends on the profile and on whether the
+-- store supports dead properties
+abbrev pub proppatch_rules : Profile → Bool → DavRequest → State → Dialogue Update
+proppatch_rules profile keeps request state =
     found_rules request state >>= λ found.
-    judged (update_verdict keeps request.body) >>= unless_some_refused request found
+    judged (update_verdict profile keeps request.body) >>= unless_some_refused profile request found
 
 -- ---- the work: the store's call and its result
 
@@ -113,15 +114,15 @@ MakesChanges keeps key (patch ∷ patches) old records store_answer new =
     ⊎ IsPatchRefused keeps key (patch ∷ patches) old records store_answer new
 
 -- the result: a response that reports the statuses that the store returned, or the error of its call
-abbrev pub stored_answer : DavRequest → Update → Result (List ℕ) FsError → Answer
-stored_answer request update (Ok statuses) = Ok (proppatch_reply request.path update.0 (grouped (made_report update.1 statuses)))
-stored_answer request update (Err e) = Err (from_fs e)
+abbrev pub stored_answer : Profile → DavRequest → Update → Result (List ℕ) FsError → Answer
+stored_answer profile request update (Ok statuses) = Ok (proppatch_reply profile request.path update.0 (grouped (made_report update.1 statuses)))
+stored_answer profile request update (Err e) = Err (from_fs e)
 
 -- the store makes all changes to dead properties or none, and the result reports what it returned
-pub record ProppatchWork (keeps : Bool) (request : DavRequest) (update : Update) (old : Contents) (records : List Logged) (answer : Answer) (new : Contents) : Type 0 where
+pub record ProppatchWork (profile : Profile) (keeps : Bool) (request : DavRequest) (update : Update) (old : Contents) (records : List Logged) (answer : Answer) (new : Contents) : Type 0 where
   pub store_answer : Result (List ℕ) FsError
   pub stored : MakesChanges keeps request.path.key (patches_of update.1) old records store_answer new
-  pub answered : answer ≡ stored_answer request update store_answer
+  pub answered : answer ≡ stored_answer profile request update store_answer
 
 -- memory ran out before the store was asked, or after it returned its statuses
 abbrev pub ProppatchCut : Bool → DavRequest → Update → Contents → List Logged → Contents → Type 0

@@ -6,6 +6,7 @@ use Rattle.std.specs.List.{cons_option}
 use Rattle.dav_resource.specs.Errors.{fs_status}
 use Rattle.dav_key.specs.Key.{Key, parent}
 use Rattle.dav_resource.specs.PathText.{PathValue}
+use Rattle.dav_resource.specs.declared.profile.Profile.{Profile}
 use Rattle.dav_resource.specs.declared.error.FsError.{FsError}
 use Rattle.dav_resource.specs.declared.error.FsError.TheVariants.{Exists}
 use Rattle.dav_resource.specs.declared.record.Op.{Op}
@@ -49,10 +50,10 @@ own_path request old = fixed_path request.path (old.contents.metas request.path.
 -- ---- the response
 
 -- The response reports each of these failures once, in some order, and nothing else. `shown` says what it reports if there are none.
-pub record Reports (path : PathValue) (failures : List Item) (shown : List Item → List Item) (reply : Reply) : Type 0 where
+pub record Reports (profile : Profile) (path : PathValue) (failures : List Item) (shown : List Item → List Item) (reply : Reply) : Type 0 where
   pub names : List Item
   pub each : IsPermutation failures names
-  pub answered : multi_answer path (shown names) ≡ Ok reply
+  pub answered : multi_answer profile path (shown names) ≡ Ok reply
 
 -- ---- DELETE
 
@@ -67,10 +68,10 @@ abbrev pub removal_item : PathValue → Logged → Option Item
 removal_item path call = if is_lookup call.op then None else failure (named_path path call.op (first_key call.keys)) call.outcome
 
 -- a response to a DELETE reports the failures of the removal, or 204 if there are none
-abbrev pub DeleteReports : DavRequest → State → List Logged → Answer → Type 0
-DeleteReports request old records answer =
+abbrev pub DeleteReports : Settings → DavRequest → State → List Logged → Answer → Type 0
+DeleteReports settings request old records answer =
     let path = own_path request old in
-    (reply : Reply) → answer ≡ Ok reply → Reports path (filter_map (removal_item path) records) (reported_items path) reply
+    (reply : Reply) → answer ≡ Ok reply → Reports settings.profile path (filter_map (removal_item path) records) (reported_items path) reply
 
 -- ---- MOVE
 
@@ -87,7 +88,7 @@ pub record IsMoveReport (settings : Settings) (request : DavRequest) (old : Stat
   pub destination : PathValue
   pub named : destination_of request.headers settings.prefix ≡ Ok destination
   pub reports :
-      Reports (own_path request old) (filter_map (move_item (own_path request old) destination) records)
+      Reports settings.profile (own_path request old) (filter_map (move_item (own_path request old) destination) records)
       (transferred_items (own_path request old) (old.contents.metas destination.key)) reply
 
 abbrev pub MoveReports : Settings → DavRequest → State → List Logged → Answer → Type 0
@@ -143,7 +144,7 @@ pub record IsCopyReport (settings : Settings) (request : DavRequest) (old : Stat
   pub passed : LeadsTo (transfer_rules false settings request old) head (Passed found)
   pub named : destination_of request.headers settings.prefix ≡ Ok found.destination
   pub reports :
-      Reports (own_path request old) (copy_items (depth_or_all request) (own_path request old) found.destination old.contents.tree false rest)
+      Reports settings.profile (own_path request old) (copy_items (depth_or_all request) (own_path request old) found.destination old.contents.tree false rest)
       (transferred_items (own_path request old) (old.contents.metas found.destination.key)) reply
 
 abbrev pub CopyReports : Settings → DavRequest → State → List Logged → Answer → Type 0

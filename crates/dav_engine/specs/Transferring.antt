@@ -4,6 +4,7 @@ use Rattle.std.specs.Prelude.{◌≡◌, ◌⊎◌, ℕ, Bool, true, false, not,
 use Rattle.dav_resource.specs.Errors.{from_fs}
 use Rattle.dav_key.specs.Key.{Key, parent, is_same_key}
 use Rattle.dav_resource.specs.PathText.{PathValue}
+use Rattle.dav_resource.specs.declared.profile.Profile.{Profile}
 use Rattle.dav_resource.specs.declared.meta.Meta.{Meta}
 use Rattle.dav_resource.specs.declared.error.FsError.{FsError}
 use Rattle.dav_resource.specs.declared.error.FsError.TheVariants.{NotFound}
@@ -178,7 +179,7 @@ abbrev pub source_path : DavRequest → Transfer → PathValue
 source_path request found = fixed_path request.path (Some found.meta)
 
 -- the work was done with these reported failures, and the result reports them (`transferred_items`)
-pub record TransferWork (Done : State → List Logged → List Item → State → Type 0) (source : PathValue) (there : Option Meta) (old : State) (records : List Logged) (answer : Answer) (new : State) : Type 0 where
+pub record TransferWork (profile : Profile) (Done : State → List Logged → List Item → State → Type 0) (source : PathValue) (there : Option Meta) (old : State) (records : List Logged) (answer : Answer) (new : State) : Type 0 where
   pub names : List Item
   pub done : Done old records names new
-  pub answered : answer ≡ multi_answer source (transferred_items source there names)
+  pub answered : answer ≡ multi_answer profile source (transferred_items source there names)

@@ -67,6 +67,7 @@ impl<'a, C: Drop, F: GuardedFileSystem<C>, L: DavLockSystem> DavInner<'a, C, F, 
         ensures work { DoesWork F.seen L.seen delete_method request.entry.now meta.now self.old (answer_of result) self.new }
     {
         let alloc = *self.prefix.allocator();
+        let profile = self.profile;
         let path = fixed_path(&request.path, Some(meta))?;
         let mut res = MultiError::new(alloc);
         match self.delete_items(&mut res, depth_or_all(request), meta, &path) {
@@ -78,7 +79,7 @@ impl<'a, C: Drop, F: GuardedFileSystem<C>, L: DavLockSystem> DavInner<'a, C, F, 
             // `res` has the failures.
             Err(_) => {}
         }
-        multi_error(alloc, &path, res.into_items())
+        multi_error(alloc, profile, &path, res.into_items())
     }
 
     /// Removes the resource at a path, with everything below it unless Depth is 0 (RFC 4918, section 9.6),

@@ -44,8 +44,8 @@ pub use dav_props::{
 pub use dav_resource::{
     Body, BodyNumber, ChildElements, DavError, DavFile, DavMethod, DavMethodSet, DavPath, DavProp,
     DavRequest, DavResult, Depth, DirEntry, ETag, ETagList, Element, FsError, FsResult, IfRange,
-    Items, LockToken, Meta, Op, OpenOptions, Outcome, Paths, Record, ReqBody, SharedElement,
-    StartTag, Text, XMLNode,
+    Items, LockToken, Meta, Op, OpenOptions, Outcome, Paths, Profile, PropertyPatch, Record,
+    ReqBody, SharedElement, StartTag, Text, XMLNode,
 };
 pub use dav_store::{DavLock, DavLockSystem, GuardedFileSystem, LockError};
 pub use dav_walks::{CopyTask, Resource, delete_items};

@@ -24,7 +24,7 @@ pub(crate) fn granted_reply(
     ensures ok { IfOk result (λ reply. reply_of reply ≡ reply_of_granted profile request.entry.now found.now lock.now) }
     ensures err { IfErr result (λ e. e ≡ Memory) }
 {
-    let mut headers = xml_headers(alloc)?;
+    let mut headers = xml_headers(alloc, profile)?;
     let token = header_value(request.token.coded()?)?;
     add_header(
         &mut headers,
@@ -56,7 +56,7 @@ pub(crate) fn refreshed_reply(
     ensures ok { IfOk result (λ reply. reply_of reply ≡ reply_of_refreshed profile path.now found.now lock.now) }
     ensures err { IfErr result (λ e. e ≡ Memory) }
 {
-    let mut headers = xml_headers(alloc)?;
+    let mut headers = xml_headers(alloc, profile)?;
     add_location(&mut headers, path, found)?;
     lock_reply(alloc, profile, StatusCode::OK, headers, lock)
 }

@@ -23,7 +23,7 @@ use dav_find::{Finder, Search, declare_prefixes, read_search};
 use dav_headers::{read_depth, read_litmus, read_user_agent};
 use dav_messages::{add_header, add_xml_type, declaring_element};
 use dav_props::PropWriter;
-use dav_resource::{Body, DavRequest, DavResult, Depth, Element, ElementName, Meta};
+use dav_resource::{Body, DavRequest, DavResult, Depth, Element, ElementName, Meta, Profile};
 use dav_store::{DavLockSystem, GuardedFileSystem};
 use dav_walks::Resource;
 use http::{Response, StatusCode};
@@ -51,7 +51,7 @@ impl<'a, C: Drop, F: GuardedFileSystem<C>, L: DavLockSystem> DavInner<'a, C, F, 
     {
         let alloc = *self.prefix.allocator();
         if is_too_deep(request) {
-            return finite_depth_reply(alloc);
+            return finite_depth_reply(alloc, self.profile);
         }
         let meta = self.find(request)?;
         let search = read_search::<C, F>(&*self.fs, alloc, &request.body, user_agent(request))?;
@@ -84,7 +84,7 @@ impl<'a, C: Drop, F: GuardedFileSystem<C>, L: DavLockSystem> DavInner<'a, C, F, 
         let alloc = *self.prefix.allocator();
         let path = fixed_path(&request.path, Some(&meta))?;
         let found = Some(meta);
-        let (mut reply, writer) = begin_reply(alloc, request, &found, search)?;
+        let (mut reply, writer) = begin_reply(alloc, self.profile, request, &found, search)?;
         let target = Resource {
             path,
             meta: found.unwrap(),
@@ -143,13 +143,13 @@ fn user_agent(request: &DavRequest) -> Option<&str>
 }
 
 /// Makes the 501 response that names the precondition that is not met. The only error is `Memory`.
-fn finite_depth_reply(alloc: Global) -> DavResult<Response<Body>>
-    ensures ok { IfOk result (λ reply. reply_of reply ≡ reply_of_finite_depth) }
+fn finite_depth_reply(alloc: Global, profile: Profile) -> DavResult<Response<Body>>
+    ensures ok { IfOk result (λ reply. reply_of reply ≡ reply_of_finite_depth profile) }
     ensures err { IfErr result (λ e. e ≡ Memory) }
 {
     let tree = finite_depth_error(alloc)?;
     let mut headers = uncached_headers(alloc)?;
-    add_xml_type(&mut headers)?;
+    add_xml_type(&mut headers, profile)?;
     let mut reply = Response::new(alloc, Body::Tree(tree));
     *reply.status_mut() = StatusCode::NOT_IMPLEMENTED;
     *reply.headers_mut() = headers;
@@ -182,17 +182,18 @@ fn uncached_headers(alloc: Global) -> DavResult<HeaderMap<HeaderValue>>
 /// only error is `Memory`.
 fn begin_reply(
     alloc: Global,
+    profile: Profile,
     request: &DavRequest,
     found: &Option<Meta>,
     search: &Search,
 ) -> DavResult<(Response<Body>, PropWriter)>
-    ensures reply { IfOk result (λ begun. reply_of begun.0 ≡ bare_reply 207 (propfind_fields ++ location_fields request.entry.now.path found.now)) }
+    ensures reply { IfOk result (λ begun. reply_of begun.0 ≡ bare_reply 207 (propfind_fields profile ++ location_fields request.entry.now.path found.now)) }
     ensures writer { IfOk result (λ begun. begun.1.tree ≡ with_prefixes search.now.asked.items (property_multistatus [])) }
     ensures err { IfErr result (λ e. e ≡ Memory) }
 {
     let mut reply = Response::new(alloc, Body::Empty);
     *reply.headers_mut() = uncached_headers(alloc)?;
-    let writer = PropWriter::new(alloc, &mut reply)?;
+    let writer = PropWriter::new(alloc, profile, &mut reply)?;
     let writer = declare_prefixes(writer, search)?;
     add_location(reply.headers_mut(), &request.path, found)?;
     Ok((reply, writer))

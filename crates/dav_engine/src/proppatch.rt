@@ -17,7 +17,7 @@ use crate::location::add_location;
 use dav_props::{
     PropWriter, PropertyChange, patches, read_update, report_failed, report_made, some_refused,
 };
-use dav_resource::{Body, DavPath, DavRequest, DavResult, Element, Meta};
+use dav_resource::{Body, DavPath, DavRequest, DavResult, Element, Meta, Profile};
 use dav_store::{DavLockSystem, GuardedFileSystem};
 use http::{Response, StatusCode};
 use std::alloc::Global;
@@ -29,7 +29,7 @@ impl<'a, C: Drop, F: GuardedFileSystem<C>, L: DavLockSystem> DavInner<'a, C, F, 
     ///
     /// If a change is rejected before the store is called, nothing is stored, and each change that is not
     /// rejected itself is reported with 424. Otherwise the store is called for all changes of dead
-    /// properties. Each of these is reported with the status that the store returned for it, and each other
+    /// properties and of times. Each of these is reported with the status that the store returned for it, and each other
     /// change with 200.
     ///
     /// Errors, checked in this order. After each of them nothing has changed.
@@ -47,10 +47,10 @@ impl<'a, C: Drop, F: GuardedFileSystem<C>, L: DavLockSystem> DavInner<'a, C, F, 
     {
         let found = self.judge_found(request)?;
         let alloc = *self.prefix.allocator();
-        let changes = read_update(alloc, &request.body, self.fs.have_props())?;
+        let changes = read_update(alloc, &request.body, self.profile, self.fs.have_props())?;
         if some_refused(changes.as_slice()) {
             let groups = report_failed(alloc, changes.as_slice())?;
-            return proppatch_reply(alloc, &request.path, &found, groups);
+            return proppatch_reply(alloc, self.profile, &request.path, &found, groups);
         }
         self.patch_found(request, &found, changes.as_slice())
     }
@@ -80,7 +80,7 @@ impl<'a, C: Drop, F: GuardedFileSystem<C>, L: DavLockSystem> DavInner<'a, C, F, 
         let alloc = *self.prefix.allocator();
         let statuses = self.make_changes(&request.path, changes)?;
         let groups = report_made(alloc, changes, statuses.as_slice())?;
-        proppatch_reply(alloc, &request.path, found, groups)
+        proppatch_reply(alloc, self.profile, &request.path, found, groups)
     }
 
     /// Has the store make the changes of dead properties, if there are any. Returns the statuses that the
@@ -109,18 +109,19 @@ impl<'a, C: Drop, F: GuardedFileSystem<C>, L: DavLockSystem> DavInner<'a, C, F, 
 /// Makes a 207 with one response that lists the properties by their statuses. The only error is `Memory`.
 fn proppatch_reply(
     alloc: Global,
+    profile: Profile,
     path: &DavPath,
     found: &Option<Meta>,
     groups: BTreeMap<u16, Vec<Element>>,
 ) -> DavResult<Response<Body>>
     requires { AreStatuses groups }
-    ensures ok { IfOk result (λ reply. reply_of reply ≡ reply_of_proppatch path.now found.now (groups_of groups)) }
+    ensures ok { IfOk result (λ reply. reply_of reply ≡ reply_of_proppatch profile path.now found.now (groups_of groups)) }
     ensures err { IfErr result (λ e. e ≡ Memory) }
 {
     let mut reply = Response::new(alloc, Body::Empty);
-    let mut writer = PropWriter::new(alloc, &mut reply)?;
+    let mut writer = PropWriter::new(alloc, profile, &mut reply)?;
     let fixed = fixed_path(path, found.as_ref())?;
-    writer.write_propresponse(&fixed, groups)?;
+    writer.write_propresponse(profile, &fixed, groups)?;
     writer.flush()?;
     add_location(reply.headers_mut(), path, found)?;
     *reply.body_mut() = Body::Tree(writer.close()?);

@@ -61,6 +61,7 @@ impl<'a, C: Drop, F: GuardedFileSystem<C>, L: DavLockSystem> DavInner<'a, C, F, 
         ensures work { DoesWork F.seen L.seen move_method request.entry.now found.now self.old (answer_of result) self.new }
     {
         let alloc = *self.prefix.allocator();
+        let profile = self.profile;
         let path = fixed_path(&request.path, Some(&found.meta))?;
         let mut res = MultiError::new(alloc);
         match self.move_to_destination(&path, found, &mut res) {
@@ -69,7 +70,7 @@ impl<'a, C: Drop, F: GuardedFileSystem<C>, L: DavLockSystem> DavInner<'a, C, F, 
             // `res` has the failures.
             Err(_) => {}
         }
-        multi_error(alloc, &path, res.into_items())
+        multi_error(alloc, profile, &path, res.into_items())
     }
 
     /// Removes what is at the destination, and then moves the source there, unless the removal failed. Adds

@@ -7,6 +7,7 @@ use Rattle.std.proofs.lemmas.List.{map-append}
 use Rattle.std.proofs.lemmas.Result.{err_from_is_err_and}
 use Rattle.dav_key.specs.Key.{Key}
 use Rattle.dav_resource.specs.Tree.{Tree, Nodes, no_nodes, text_then, element_then, append_nodes, elements}
+use Rattle.dav_resource.specs.declared.profile.Profile.{Profile}
 use Rattle.dav_resource.specs.declared.error.DavError.{DavError}
 use Rattle.dav_resource.specs.declared.error.DavError.TheVariants.{Memory}
 use Rattle.dav_resource.specs.declared.request.Depth.{Depth}
@@ -45,15 +46,15 @@ elements-more : (ts us : List Tree) → elements (ts ++ us) ≡ append_nodes (el
 elements-more [] us = refl
 elements-more (t ∷ ts) us = ap (element_then t.tag t.children) (elements-more ts us)
 
-pub written_none : (tree : Tree) → written tree [] ≡ tree
-written_none tree = λ i. record tree { children = append-none tree.children i }
+pub written_none : (profile : Profile) (tree : Tree) → written profile tree [] ≡ tree
+written_none profile tree = λ i. record tree { children = append-none tree.children i }
 
-pub written_more : (tree : Tree) (visits others : List Visit) → written (written tree visits) others ≡ written tree (visits ++ others)
-written_more tree visits others =
-    let ms : List Tree = map response_of visits in
-    let ns : List Tree = map response_of others in
-    let joined : append_nodes (append_nodes tree.children (elements ms)) (elements ns) ≡ append_nodes tree.children (elements (map response_of (visits ++ others)))
-    = append-more tree.children (elements ms) (elements ns) ∙ ap (append_nodes tree.children) (sym (elements-more ms ns) ∙ ap elements (sym (map-append response_of visits others))) in
+pub written_more : (profile : Profile) (tree : Tree) (visits others : List Visit) → written profile (written profile tree visits) others ≡ written profile tree (visits ++ others)
+written_more profile tree visits others =
+    let ms : List Tree = map (response_of profile) visits in
+    let ns : List Tree = map (response_of profile) others in
+    let joined : append_nodes (append_nodes tree.children (elements ms)) (elements ns) ≡ append_nodes tree.children (elements (map (response_of profile) (visits ++ others)))
+    = append-more tree.children (elements ms) (elements ns) ∙ ap (append_nodes tree.children) (sym (elements-more ms ns) ∙ ap elements (sym (map-append (response_of profile) visits others))) in
     λ i. record tree { children = joined i }
 
 -- ---- a response
@@ -74,7 +75,7 @@ module _ (view : View) (asked : List AskedProperty) where
       fixed = refl;
       over = subst (λ shown. Shows view store.contents asked shown here quota [] [] quota) (sym none) (refl, refl, refl);
     };
-    tree = sym (written_none writer.tree);
+    tree = sym (written_none view.profile writer.tree);
   }
 
   responds : (here : Resource) (quota : Option QuotaAnswer) (old new : Store) (answer : List PropertyStatus × Option QuotaAnswer) (h : IsResponse view asked here quota old (Ok answer) new) → Responds view old.contents asked here quota h.held.records (Some answer)
@@ -89,7 +90,7 @@ module _ (view : View) (asked : List AskedProperty) where
 
   pub shown_one : (depth : Depth) (here : Resource) (quota : Option QuotaAnswer) (before : Tree) (old new : Store) (after : PropWriter)
       (answer : List PropertyStatus × Option QuotaAnswer) → is_shown depth ≡ true
-      → IsResponse view asked here quota old (Ok answer) new → after.tree ≡ with_elements before (property_response here.path (grouped answer.0) ∷ [])
+      → IsResponse view asked here quota old (Ok answer) new → after.tree ≡ with_elements before (property_response view.profile here.path (grouped answer.0) ∷ [])
       → IsShown view asked depth here quota before old after answer.1 new
   shown_one depth here quota before old new after answer is h tree = record {
     visits = record { path = here.path; reported = answer.0 } ∷ [];
@@ -212,12 +213,12 @@ module _ (view : View) (asked : List AskedProperty) where
   all_over depth quota store writer = record {
     end = Some [];
     read = record { records = []; recorded = sym (append-nil store.log); same = refl; fixed = refl; over = over refl refl refl };
-    writes = sym (written_none writer.tree);
+    writes = sym (written_none view.profile writer.tree);
   }
 
-  writes_more : (before : Tree) (after : PropWriter) (visits : List Visit) (answer : Result PropWriter DavError) (end : Option (List Visit)) → after.tree ≡ written before visits → Writes view asked after.tree answer end
+  writes_more : (before : Tree) (after : PropWriter) (visits : List Visit) (answer : Result PropWriter DavError) (end : Option (List Visit)) → after.tree ≡ written view.profile before visits → Writes view asked after.tree answer end
       → Writes view asked before answer (option_map (λ vs. visits ++ vs) end)
-  writes_more before after visits (Ok writer) (Some vs) is h = h ∙ ap (λ t. written t vs) is ∙ written_more before visits vs
+  writes_more before after visits (Ok writer) (Some vs) is h = h ∙ ap (λ t. written view.profile t vs) is ∙ written_more view.profile before visits vs
   writes_more before after visits (Ok writer) None is h = h
   writes_more before after visits (Err e) (Some vs) is h = h
   writes_more before after visits (Err e) None is h = h

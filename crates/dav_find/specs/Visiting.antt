@@ -4,6 +4,7 @@ use Rattle.std.specs.Prelude.{◌≡◌, Bool, true, false, ◌&&◌, List, [], 
 use Rattle.std.specs.Option.{option_map}
 use Rattle.dav_resource.specs.PathText.{PathValue}
 use Rattle.dav_resource.specs.Tree.{Tree}
+use Rattle.dav_resource.specs.declared.profile.Profile.{Profile}
 use Rattle.dav_resource.specs.declared.request.Depth.{Depth}
 use Rattle.dav_resource.specs.declared.request.Depth.TheVariants.{Zero, Infinity, Default}
 use Rattle.dav_store.specs.Logged.{Logged}
@@ -21,8 +22,8 @@ pub record Visit : Type 0 where
   pub reported : List PropertyStatus
 
 -- the response for the resource
-abbrev pub response_of : Visit → Tree
-response_of visit = property_response visit.path (grouped visit.reported)
+abbrev pub response_of : Profile → Visit → Tree
+response_of profile visit = property_response profile visit.path (grouped visit.reported)
 
 -- ---- what a Depth reaches
 

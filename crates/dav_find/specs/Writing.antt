@@ -4,6 +4,7 @@ use Rattle.std.specs.FinMap.{keys}
 use Rattle.dav_resource.specs.Tree.{Tree}
 use Rattle.dav_resource.specs.declared.error.DavError.{DavError}
 use Rattle.dav_resource.specs.declared.error.DavError.TheVariants.{Memory}
+use Rattle.dav_resource.specs.declared.profile.Profile.{Profile}
 use Rattle.dav_resource.specs.declared.request.Depth.{Depth}
 use Rattle.dav_store.specs.Logged.{Logged}
 use Rattle.dav_store.specs.Store.{Store, Contents}
@@ -17,8 +18,8 @@ use Rattle.dav_find.specs.Finding.{View, QuotaAnswer}
 use Rattle.dav_find.specs.Visiting.{Visit, response_of, Shows, Visits, VisitsInPart, VisitsAll, VisitsFrom, is_shown}
 
 -- the responses of these visits, after what was written before
-abbrev pub written : Tree → List Visit → Tree
-written before visits = with_elements before (map response_of visits)
+abbrev pub written : Profile → Tree → List Visit → Tree
+written profile before visits = with_elements before (map (response_of profile) visits)
 
 -- the store was read over these records, and nothing changed except the log
 pub record IsRead (Over : List Logged → Type 0) (old new : Store) : Type 0 where
@@ -33,14 +34,14 @@ module _ (view : View) (asked : List AskedProperty) where
   pub record IsShown (depth : Depth) (here : Resource) (quota : Option QuotaAnswer) (before : Tree) (old : Store) (after : PropWriter) (next : Option QuotaAnswer) (new : Store) : Type 0 where
     pub visits : List Visit
     pub read : IsRead (λ records. Shows view old.contents asked (is_shown depth) here quota records visits next) old new
-    pub tree : after.tree ≡ written before visits
+    pub tree : after.tree ≡ written view.profile before visits
 
   -- the same, and its members become the next pending resources
   pub record IsVisited (depth : Depth) (here : Resource) (quota : Option QuotaAnswer) (waits : List Resource) (before : Tree) (old : Store) (after : PropWriter) (next : Option QuotaAnswer) (wait : List Resource) (new : Store) : Type 0 where
     pub visits : List Visit
     pub members : List Resource
     pub read : IsRead (λ records. Visits view old.contents asked depth here quota records visits next members) old new
-    pub tree : after.tree ≡ written before visits
+    pub tree : after.tree ≡ written view.profile before visits
     pub added : in_turn wait ≡ members ++ in_turn waits
 
   -- memory ran out
@@ -49,7 +50,7 @@ module _ (view : View) (asked : List AskedProperty) where
 
   -- the visits are written, or memory ran out
   abbrev pub Writes : Tree → Result PropWriter DavError → Option (List Visit) → Type 0
-  Writes before (Ok writer) (Some visits) = writer.tree ≡ written before visits
+  Writes before (Ok writer) (Some visits) = writer.tree ≡ written view.profile before visits
   Writes before (Ok writer) None = ⊥
   Writes before (Err e) (Some visits) = ⊥
   Writes before (Err e) None = e ≡ Memory

@@ -107,7 +107,7 @@ impl<'r, C, L: DavLockSystem> Finder<'r, C, L> {
         }
         let (reported, quota) = self.respond(fs, here, quota)?;
         let groups = group_by_status(self.alloc, reported.into_vec())?;
-        writer.write_propresponse(&here.path, groups)?;
+        writer.write_propresponse(self.profile, &here.path, groups)?;
         Ok((writer, quota))
     }
 }

@@ -13,7 +13,7 @@ use crate::listing::hide_members;
 use crate::policy::Policy;
 use dav_resource::{
     BodyNumber, DavFile, DavPath, DavProp, DirEntry, Element, FsResult, Meta, Op, OpenOptions,
-    Paths, Record,
+    Paths, PropertyPatch, Record,
 };
 use dav_store::{GuardedFileSystem, one_path, two_paths};
 use dav_wrapping::{last_outcome, with_statuses};
@@ -316,7 +316,7 @@ impl<C, F: GuardedFileSystem<C>, P: Policy> GuardedFileSystem<C> for Guarding<F,
     fn patch_props(
         &mut self,
         path: &DavPath,
-        patches: &[(bool, DavProp)],
+        patches: &[PropertyPatch],
         credentials: &C,
     ) -> FsResult<Vec<StatusCode>>
         requires some { patches.now ≢ [] }

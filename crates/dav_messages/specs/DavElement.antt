@@ -1,7 +1,9 @@
 -- Elements of a request's body, recognized by their local names, and of a response's body, with the prefix `D`, which the outermost one declares (RFC
 -- 4918, section 14; Namespaces in XML 1.0, section 3).
 use Rattle.std.specs.Prelude.{ℕ, Bool, List, bytes_eq, codes}
-use Rattle.dav_resource.specs.PathText.{PathValue, url_text}
+use Rattle.dav_resource.specs.PathText.{PathValue}
+use Rattle.dav_resource.specs.Profile.{href_text}
+use Rattle.dav_resource.specs.declared.profile.Profile.{Profile}
 use Rattle.dav_resource.specs.PathForms.{prefixed}
 use Rattle.dav_resource.specs.Tree.{Tree, prefixed_element, with_attribute, with_children, one_text, elements}
 
@@ -22,5 +24,5 @@ abbrev pub text_element : List ℕ → List ℕ → Tree
 text_element name text = with_children (prefixed_element name) (one_text text)
 
 -- the `D:href` of a path, including its prefix
-abbrev pub href_element : PathValue → Tree
-href_element path = text_element (codes "D:href") (url_text (prefixed path))
+abbrev pub href_element : Profile → PathValue → Tree
+href_element profile path = text_element (codes "D:href") (href_text profile (prefixed path))

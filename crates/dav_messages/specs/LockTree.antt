@@ -35,8 +35,8 @@ abbrev pub token_element : List ℕ → Tree
 token_element token = with_elements (prefixed_element (codes "D:locktoken")) (text_element (codes "D:href") token ∷ [])
 
 -- the path that was locked
-abbrev pub lock_root : PathValue → Tree
-lock_root path = with_elements (prefixed_element (codes "D:lockroot")) (href_element path ∷ [])
+abbrev pub lock_root : Profile → PathValue → Tree
+lock_root profile path = with_elements (prefixed_element (codes "D:lockroot")) (href_element profile path ∷ [])
 
 -- the owner last, as the lock has it, if it has one
 abbrev pub active_lock : Profile → DavLock → Tree
@@ -47,7 +47,7 @@ active_lock profile lock =
     ∷ text_element (codes "D:depth") (depth_text profile lock.deep)
     ∷ text_element (codes "D:timeout") (timeout_text lock.timeout)
     ∷ token_element lock.token
-    ∷ lock_root lock.path
+    ∷ lock_root profile lock.path
     ∷ option_map_or (λ owner. owner ∷ []) lock.owner [])
 
 -- ---- the locks that cover a path

@@ -5,7 +5,9 @@ use Rattle.http.specs.StatusCode.{code_digits, reason_phrase}
 use Rattle.http.specs.declared.version.TheConstants.Version.{HTTP_11}
 use Rattle.dav_key.specs.Key.{is_same_key}
 use Rattle.dav_resource.specs.PathText.{PathValue}
+use Rattle.dav_resource.specs.Profile.{xml_type}
 use Rattle.dav_resource.specs.Tree.{Tree, prefixed_element}
+use Rattle.dav_resource.specs.declared.profile.Profile.{Profile}
 use Rattle.dav_resource.specs.declared.request.Body.{Body}
 use Rattle.dav_resource.specs.declared.error.DavError.TheVariants.{ChanError}
 use Rattle.dav_messages.specs.DavElement.{with_elements, declaring_element, text_element, href_element}
@@ -32,25 +34,22 @@ abbrev pub shown_status : ℕ → ℕ
 shown_status status = if status == 204 then 200 else status
 
 -- the resource's path, including its prefix, and its status
-abbrev pub response_element : Item → Tree
-response_element item =
+abbrev pub response_element : Profile → Item → Tree
+response_element profile item =
     with_elements (prefixed_element (codes "D:response"))
-    (href_element item.0 ∷ status_element (shown_status item.1) ∷ [])
+    (href_element profile item.0 ∷ status_element (shown_status item.1) ∷ [])
 
 -- a response for each item, in order
-abbrev pub multistatus : List Item → Tree
-multistatus items = with_elements (declaring_element (codes "D:multistatus")) (map response_element items)
-
-abbrev pub xml_type : List ℕ
-xml_type = codes "application/xml; charset=utf-8"
+abbrev pub multistatus : Profile → List Item → Tree
+multistatus profile items = with_elements (declaring_element (codes "D:multistatus")) (map (response_element profile) items)
 
 -- 207, with the tree
-abbrev pub multistatus_reply : List Item → Reply
-multistatus_reply items =
-    record { status = 207; version = HTTP_11; headers = field (codes "content-type") xml_type ∷ []; body = Body.Tree (multistatus items) }
+abbrev pub multistatus_reply : Profile → List Item → Reply
+multistatus_reply profile items =
+    record { status = 207; version = HTTP_11; headers = field (codes "content-type") (xml_type profile) ∷ []; body = Body.Tree (multistatus profile items) }
 
 -- One item with the request's own key gives the response its status, without a body. No item is an error. Otherwise the response is a 207.
-abbrev pub multi_answer : PathValue → List Item → Answer
-multi_answer path [] = Err ChanError
-multi_answer path (item ∷ []) = if is_same_key path.key item.0.key then Ok (bare_reply item.1 []) else Ok (multistatus_reply (item ∷ []))
-multi_answer path (item ∷ next ∷ items) = Ok (multistatus_reply (item ∷ next ∷ items))
+abbrev pub multi_answer : Profile → PathValue → List Item → Answer
+multi_answer profile path [] = Err ChanError
+multi_answer profile path (item ∷ []) = if is_same_key path.key item.0.key then Ok (bare_reply item.1 []) else Ok (multistatus_reply profile (item ∷ []))
+multi_answer profile path (item ∷ next ∷ items) = Ok (multistatus_reply profile (item ∷ next ∷ items))

@@ -5,7 +5,7 @@ ghost use Rattle.dav_resource.specs.Tree.{prefixed_element};
 ghost use Rattle.dav_resource.specs.ElementNames.{name_text};
 ghost use Rattle.dav_messages.specs.DavElement.{with_elements, declaring_element as element_that_declares, text_element as element_of_text, href_element as element_of_path, is_named as is_named_tree};
 
-use dav_resource::{DavPath, Element, ElementName, Text};
+use dav_resource::{DavPath, Element, ElementName, Profile, Text};
 use std::alloc::{AllocError, Global};
 
 /// Returns whether the element has this local name, whatever its prefix and namespace.
@@ -31,10 +31,10 @@ pub fn text_element(alloc: Global, name: ElementName, text: Text) -> Result<Elem
 
 /// Creates the element `D:href` of a path, including the path's prefix (RFC 4918, section 14.7). Fails only
 /// if memory runs out.
-pub fn href_element(alloc: Global, path: &DavPath) -> Result<Element, AllocError>
-    ensures { IfOk result (λ element. element ≡ element_of_path path.now) }
+pub fn href_element(alloc: Global, profile: Profile, path: &DavPath) -> Result<Element, AllocError>
+    ensures { IfOk result (λ element. element ≡ element_of_path profile path.now) }
 {
-    let href = path.with_prefix()?.as_url_string()?;
+    let href = path.with_prefix()?.as_href(profile)?;
     text_element(alloc, ElementName::Href, Text::from_string(href))
 }
 

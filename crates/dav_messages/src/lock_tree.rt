@@ -121,7 +121,7 @@ fn active_lock(alloc: Global, profile: Profile, lock: &DavLock) -> Result<Elemen
     tree.push_element(text_element(alloc, ElementName::Depth, depth)?)?;
     tree.push_element(text_element(alloc, ElementName::Timeout, timeout)?)?;
     tree.push_element(lock_token(alloc, lock.token.clone()?)?)?;
-    tree.push_element(lock_root(alloc, &lock.path)?)?;
+    tree.push_element(lock_root(alloc, profile, &lock.path)?)?;
     if let Some(owner) = &lock.owner {
         tree.push_element(owner.clone()?)?;
     }
@@ -171,10 +171,14 @@ fn lock_token(alloc: Global, token: Text) -> Result<Element, AllocError>
 }
 
 /// Returns the path that was locked.
-fn lock_root(alloc: Global, path: &DavPath) -> Result<Element, AllocError>
-    ensures { IfOk result (λ element. element ≡ element_of_root path.now) }
+fn lock_root(alloc: Global, profile: Profile, path: &DavPath) -> Result<Element, AllocError>
+    ensures { IfOk result (λ element. element ≡ element_of_root profile path.now) }
 {
-    outer_element(alloc, ElementName::LockRoot, href_element(alloc, path)?)
+    outer_element(
+        alloc,
+        ElementName::LockRoot,
+        href_element(alloc, profile, path)?,
+    )
 }
 
 /// Returns a `D:supportedlock` with exclusive and then shared locks, if a lock system is present.

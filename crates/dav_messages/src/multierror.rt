@@ -7,7 +7,7 @@ ghost use Rattle.dav_messages.specs.Reply.{reply_of};
 ghost use Rattle.dav_messages.specs.Multistatus.{first_status, multi_answer};
 
 use crate::multistatus::{bare_reply, multistatus_reply};
-use dav_resource::{Body, DavError, DavPath, DavResult};
+use dav_resource::{Body, DavError, DavPath, DavResult, Profile};
 use http::{Response, StatusCode};
 use std::alloc::Global;
 use std::marker::Model;
@@ -81,15 +81,16 @@ impl MultiError {
 /// Errors: `ChanError` if there is no item, `Memory` if memory runs out.
 pub fn multi_error(
     alloc: Global,
+    profile: Profile,
     req_path: &DavPath,
     items: Vec<(DavPath, StatusCode)>,
 ) -> DavResult<Response<Body>>
-    ensures { GivesBy reply_of result (multi_answer req_path.now items.items) }
+    ensures { GivesBy reply_of result (multi_answer profile req_path.now items.items) }
 {
     let listed = items.as_slice();
     match listed {
         [] => Err(DavError::ChanError),
         [(path, status)] if req_path.same_key(path) => Ok(bare_reply(alloc, *status)),
-        _ => multistatus_reply(alloc, listed),
+        _ => multistatus_reply(alloc, profile, listed),
     }
 }

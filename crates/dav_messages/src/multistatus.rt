@@ -3,11 +3,13 @@ ghost use Rattle.std.specs.Prelude.{◌≡◌, ◌++◌, codes, [], ◌∷◌, I
 ghost use Rattle.dav_resource.specs.declared.error.DavError.TheVariants.{Memory};
 ghost use Rattle.dav_messages.specs.Reply.{reply_of, bare_reply as reply_without_body, field};
 ghost use Rattle.dav_messages.specs.ReplyHeader.{HasRoomFor};
-ghost use Rattle.dav_messages.specs.Multistatus.{status_line as line_of_status, status_element as element_of_status, shown_status as status_shown_for, response_element as element_of_item, multistatus as tree_of_items, xml_type, multistatus_reply as reply_of_items};
+ghost use Rattle.http_header.specs.FieldValue.{plain_value};
+ghost use Rattle.dav_messages.specs.Multistatus.{status_line as line_of_status, status_element as element_of_status, shown_status as status_shown_for, response_element as element_of_item, multistatus as tree_of_items, multistatus_reply as reply_of_items};
+ghost use Rattle.dav_resource.specs.Profile.{xml_type};
 
 use crate::dav_element::{declaring_element, href_element, text_element};
 use crate::reply_header::add_header;
-use dav_resource::{Body, DavPath, DavResult, Element, ElementName, Text};
+use dav_resource::{Body, DavPath, DavResult, Element, ElementName, Profile, Text};
 use http::{Response, StatusCode};
 use http_header::{CONTENT_TYPE, HeaderMap, HeaderValue};
 use std::alloc::{AllocError, Global};
@@ -27,13 +29,14 @@ pub(crate) fn bare_reply(alloc: Global, status: StatusCode) -> Response<Body>
 /// Returns a 207 with a `response` for each item, in order. The only error is `Memory`.
 pub(crate) fn multistatus_reply(
     alloc: Global,
+    profile: Profile,
     items: &[(DavPath, StatusCode)],
 ) -> DavResult<Response<Body>>
-    ensures ok { IfOk result (λ reply. reply_of reply ≡ reply_of_items items.now) }
+    ensures ok { IfOk result (λ reply. reply_of reply ≡ reply_of_items profile items.now) }
     ensures err { IfErr result (λ e. e ≡ Memory) }
 {
-    let tree = multistatus(alloc, items)?;
-    let headers = xml_headers(alloc)?;
+    let tree = multistatus(alloc, profile, items)?;
+    let headers = xml_headers(alloc, profile)?;
     let mut reply = Response::new(alloc, Body::Tree(tree));
     *reply.status_mut() = StatusCode::MULTI_STATUS;
     *reply.headers_mut() = headers;
@@ -42,34 +45,48 @@ pub(crate) fn multistatus_reply(
 
 /// Returns the header fields of a response with an XML body: only `content-type`, for XML in UTF-8 (RFC 4918,
 /// section 8.2). The only error is `Memory`.
-pub fn xml_headers(alloc: Global) -> DavResult<HeaderMap<HeaderValue>>
-    ensures ok { IfOk result (λ headers. headers ≡ field (codes "content-type") xml_type ∷ []) }
+pub fn xml_headers(alloc: Global, profile: Profile) -> DavResult<HeaderMap<HeaderValue>>
+    ensures ok { IfOk result (λ headers. headers ≡ field (codes "content-type") (xml_type profile) ∷ []) }
     ensures err { IfErr result (λ e. e ≡ Memory) }
 {
     let mut headers = HeaderMap::new(alloc);
-    add_xml_type(&mut headers)?;
+    add_xml_type(&mut headers, profile)?;
     Ok(headers)
 }
 
 /// Appends the header field `content-type` for XML in UTF-8 (RFC 4918, section 8.2). The caller ensures that it
 /// is not set yet, as for `add_header`. The only error is `Memory`, and then the fields are unchanged.
-pub fn add_xml_type(headers: &mut HeaderMap<HeaderValue>) -> DavResult<()>
+pub fn add_xml_type(headers: &mut HeaderMap<HeaderValue>, profile: Profile) -> DavResult<()>
     requires { HasRoomFor headers.old (codes "content-type") }
-    ensures ok { OnOk result (headers.new ≡ headers.old ++ field (codes "content-type") xml_type ∷ []) }
+    ensures ok { OnOk result (headers.new ≡ headers.old ++ field (codes "content-type") (xml_type profile) ∷ []) }
     ensures unset { OnErr result (headers.new ≡ headers.old) }
     ensures err { IfErr result (λ e. e ≡ Memory) }
 {
-    let xml = HeaderValue::from_static("application/xml; charset=utf-8");
-    add_header(headers, CONTENT_TYPE, Some(xml))
+    add_header(headers, CONTENT_TYPE, Some(xml_value(profile)))
+}
+
+/// Returns the media type of a response with an XML body, as the value of a header field. RFC 4918 says `application/xml`,
+/// and has each client accept `text/xml` too, the only one that some read.
+fn xml_value(profile: Profile) -> HeaderValue
+    ensures { result ≡ plain_value (xml_type profile) }
+{
+    match profile {
+        Profile::Crate => HeaderValue::from_static("application/xml; charset=utf-8"),
+        Profile::Standard => HeaderValue::from_static("text/xml; charset=\"utf-8\""),
+    }
 }
 
 /// Returns a `multistatus` with a `response` for each item, in order.
-fn multistatus(alloc: Global, items: &[(DavPath, StatusCode)]) -> Result<Element, AllocError>
-    ensures { IfOk result (λ tree. tree ≡ tree_of_items items.now) }
+fn multistatus(
+    alloc: Global,
+    profile: Profile,
+    items: &[(DavPath, StatusCode)],
+) -> Result<Element, AllocError>
+    ensures { IfOk result (λ tree. tree ≡ tree_of_items profile items.now) }
 {
     let mut tree = declaring_element(alloc, ElementName::Multistatus)?;
     for (path, status) in items {
-        tree.push_element(response_element(alloc, path, *status)?)?;
+        tree.push_element(response_element(alloc, profile, path, *status)?)?;
     }
     Ok(tree)
 }
@@ -77,13 +94,14 @@ fn multistatus(alloc: Global, items: &[(DavPath, StatusCode)]) -> Result<Element
 /// Returns a `response` with the resource's path, including its prefix, and its status.
 fn response_element(
     alloc: Global,
+    profile: Profile,
     path: &DavPath,
     status: StatusCode,
 ) -> Result<Element, AllocError>
-    ensures { IfOk result (λ response. response ≡ element_of_item (path.now, status)) }
+    ensures { IfOk result (λ response. response ≡ element_of_item profile (path.now, status)) }
 {
     let mut response = Element::constant(alloc, ElementName::Response);
-    response.push_element(href_element(alloc, path)?)?;
+    response.push_element(href_element(alloc, profile, path)?)?;
     response.push_element(status_element(alloc, shown_status(status))?)?;
     Ok(response)
 }

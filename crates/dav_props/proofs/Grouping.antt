@@ -15,6 +15,7 @@ use Rattle.std.proofs.lemmas.Bool.Decides.{eqb_tells}
 use Rattle.std.proofs.lemmas.List.{get_or-map, length-map}
 use Rattle.std.proofs.lemmas.List.Elements.{All-get_or}
 use Rattle.http.specs.StatusCode.{IsStatusCode}
+use Rattle.dav_resource.specs.declared.profile.Profile.{Profile}
 use Rattle.dav_resource.specs.PathText.{PathValue}
 use Rattle.dav_resource.specs.TreeLaws.{elements_snoc}
 use Rattle.dav_messages.specs.DavElement.{href_element}
@@ -191,11 +192,11 @@ told_more : (es : List (ℕ × Vec Tree Global)) (e : ℕ × Vec Tree Global) �
 told_more [] e = refl
 told_more (d ∷ es) e = ap (λ ts. propstat (d.0, d.1.items) ∷ ts) (told_more es e)
 
-pub responded : (path : PathValue) (es : List (ℕ × Vec Tree Global)) (e : ℕ × Vec Tree Global)
-    → with_children (property_response path (seen_groups es)) (one_element (propstat (e.0, e.1.items))) ≡ property_response path (seen_groups (es ++ e ∷ []))
-responded path es e =
+pub responded : (profile : Profile) (path : PathValue) (es : List (ℕ × Vec Tree Global)) (e : ℕ × Vec Tree Global)
+    → with_children (property_response profile path (seen_groups es)) (one_element (propstat (e.0, e.1.items))) ≡ property_response profile path (seen_groups (es ++ e ∷ []))
+responded profile path es e =
     ap (with_children (prefixed_element (codes "D:response")))
-    (elements_snoc (href_element path ∷ map propstat (seen_groups es)) (propstat (e.0, e.1.items)) ∙ ap (λ ts. elements (href_element path ∷ ts)) (told_more es e))
+    (elements_snoc (href_element profile path ∷ map propstat (seen_groups es)) (propstat (e.0, e.1.items)) ∙ ap (λ ts. elements (href_element profile path ∷ ts)) (told_more es e))
 
 -- an entry's key is a status
 pub status_among : (es : List (ℕ × Vec Tree Global)) (i : ℕ) (e : ℕ × Vec Tree Global) → All IsStatusCode (keys_of es) → i < length es → e ≡ get_or es i e → IsStatusCode e.0

@@ -6,3 +6,4 @@ mod PartLemmas
 mod LanguageTagLemmas
 mod PlaceLemmas
 mod LanguageLemmas
+mod Times

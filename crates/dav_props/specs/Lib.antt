@@ -5,3 +5,4 @@ pub mod Property
 pub mod Propstat
 pub mod Groups
 pub mod Update
+pub mod UpdateLaws

@@ -1,11 +1,14 @@
 -- How the properties of a resource are reported: grouped by status (RFC 4918, sections 13, 14.16, 14.18, 14.22 and 14.24).
-use Rattle.std.specs.Prelude.{ℕ, nat_eq, List, [], ◌∷◌, map, filter, codes}
+use Rattle.std.specs.Prelude.{ℕ, nat_eq, List, [], ◌∷◌, ◌++◌, map, filter, codes}
 use Rattle.std.specs.Ordering.{nat_cmp}
 use Rattle.std.specs.FinMap.{keys, from_entries}
 use Rattle.dav_resource.specs.PathText.{PathValue}
+use Rattle.dav_resource.specs.Profile.{xml_type}
 use Rattle.dav_resource.specs.Tree.{Tree, prefixed_element}
+use Rattle.dav_resource.specs.declared.profile.Profile.{Profile}
 use Rattle.dav_messages.specs.DavElement.{with_elements, declaring_element, href_element}
 use Rattle.dav_messages.specs.Multistatus.{status_element}
+use Rattle.dav_messages.specs.Reply.{Reply, field}
 
 -- ---- properties by their statuses
 
@@ -38,9 +41,16 @@ propstat group =
     (with_elements (prefixed_element (codes "D:prop")) group.1 ∷ status_element group.0 ∷ [])
 
 -- a resource's path, including its prefix, and its properties grouped by status
-abbrev pub property_response : PathValue → List Group → Tree
-property_response path groups = with_elements (prefixed_element (codes "D:response")) (href_element path ∷ map propstat groups)
+abbrev pub property_response : Profile → PathValue → List Group → Tree
+property_response profile path groups = with_elements (prefixed_element (codes "D:response")) (href_element profile path ∷ map propstat groups)
 
 -- each response, in order
 abbrev pub property_multistatus : List Tree → Tree
 property_multistatus responses = with_elements (declaring_element (codes "D:multistatus")) responses
+
+-- ---- the response
+
+-- 207, with the media type of the body behind the other fields
+abbrev pub begun_in : Profile → Reply → Reply
+begun_in profile reply =
+    record reply { status = 207; headers = reply.headers ++ field (codes "content-type") (xml_type profile) ∷ [] }

@@ -1,14 +1,17 @@
 -- What the body of a PROPPATCH requests (RFC 4918, sections 9.2, 14.18, 14.19, 14.23 and 14.26). Elements are recognized only by their local names.
 use Rattle.std.specs.Prelude.{ℕ, Bool, true, false, ◌&&◌, ◌||◌, not, nat_eq, if◌then◌else◌, List, [], ◌++◌, map, filter, codes, Some, None, Result, Ok, Err}
 use Rattle.std.specs.List.{flat_map, list_any, zip}
+use Rattle.std.specs.Option.{unwrap_or}
 use Rattle.dav_resource.specs.Tree.{Tree, elements_of}
 use Rattle.dav_resource.specs.declared.error.DavError.{DavError}
 use Rattle.dav_resource.specs.declared.error.DavError.TheVariants.{XmlParseError}
+use Rattle.dav_resource.specs.declared.profile.Profile.{Profile}
+use Rattle.dav_resource.specs.declared.property.PropertyPatch.TheVariants.{Set, Remove}
 use Rattle.dav_resource.specs.declared.request.ReqBody.{ReqBody}
 use Rattle.dav_resource.specs.declared.request.ReqBody.TheVariants as bodies
 use Rattle.dav_store.specs.PropertyCalls.{Patch}
 use Rattle.dav_messages.specs.DavElement.{is_named}
-use Rattle.dav_props.specs.Live.{set_status, remove_status}
+use Rattle.dav_props.specs.Live.{kind_of, time_in, patch_of_time, set_status, remove_status}
 use Rattle.dav_props.specs.Property.{bare, prop_named}
 use Rattle.dav_props.specs.Propstat.{PropertyStatus}
 use Rattle.dav_props.specs.declared.update.PropertyChange.{PropertyChange}
@@ -25,9 +28,9 @@ change_of change = record { set = change.set; element = change.element.now; stat
 -- ---- what the body requests
 
 -- The change that sets a property (`true`) or removes it, with its status. `keeps` says whether the store supports dead properties.
-abbrev pub judged : Bool → Bool → Tree → Change
-judged keeps true prop = record { set = true; element = prop; status = set_status prop keeps }
-judged keeps false prop = record { set = false; element = prop; status = remove_status prop keeps }
+abbrev pub judged : Profile → Bool → Bool → Tree → Change
+judged profile keeps true prop = record { set = true; element = prop; status = set_status profile prop keeps }
+judged profile keeps false prop = record { set = false; element = prop; status = remove_status prop keeps }
 
 -- the properties in a `prop`, none in any other element
 abbrev pub properties_of : Tree → List Tree
@@ -38,16 +41,16 @@ abbrev pub properties_in : Tree → List Tree
 properties_in part = flat_map properties_of (elements_of part.children)
 
 -- the changes that a part of the body requests
-abbrev pub changes_in : Bool → Tree → List Change
-changes_in keeps part =
-    if is_named (codes "set") part then map (judged keeps true) (properties_in part)
-    else (if is_named (codes "remove") part then map (judged keeps false) (properties_in part) else [])
+abbrev pub changes_in : Profile → Bool → Tree → List Change
+changes_in profile keeps part =
+    if is_named (codes "set") part then map (judged profile keeps true) (properties_in part)
+    else (if is_named (codes "remove") part then map (judged profile keeps false) (properties_in part) else [])
 
 -- All changes, in order. A body that is not a `propertyupdate` is an error.
-abbrev pub update_verdict : Bool → ReqBody → Result (List Change) DavError
-update_verdict keeps (bodies.Tree root) =
-    if is_named (codes "propertyupdate") root then Ok (flat_map (changes_in keeps) (elements_of root.children)) else Err XmlParseError
-update_verdict keeps _ = Err XmlParseError
+abbrev pub update_verdict : Profile → Bool → ReqBody → Result (List Change) DavError
+update_verdict profile keeps (bodies.Tree root) =
+    if is_named (codes "propertyupdate") root then Ok (flat_map (changes_in profile keeps) (elements_of root.children)) else Err XmlParseError
+update_verdict profile keeps _ = Err XmlParseError
 
 -- ---- the changes for the store
 
@@ -67,9 +70,14 @@ some_refused changes = list_any is_refused changes
 abbrev pub live_first : List Change → List Change
 live_first changes = filter (λ change. not (is_dead change)) changes ++ filter is_dead changes
 
--- what the store has to do for a change: a property that is set has its element as its value
+-- what the store has to do to set a property: a time is set, and any other property has its element as its value
+abbrev pub set_patch : Tree → Patch
+set_patch element =
+    unwrap_or (patch_of_time (kind_of element.tag.namespace element.tag.name) (time_in element)) (Set (prop_named element (Some element)))
+
+-- what the store has to do for a change
 abbrev pub patch_of : Change → Patch
-patch_of change = (change.set, prop_named change.element (if change.set then Some change.element else None))
+patch_of change = if change.set then set_patch change.element else Remove (prop_named change.element None)
 
 abbrev pub patches_of : List Change → List Patch
 patches_of changes = map patch_of (filter is_dead changes)

@@ -5,10 +5,11 @@ ghost use Rattle.dav_resource.specs.Element.{nodes_of};
 ghost use Rattle.dav_resource.specs.Tree.{texts, texts_of};
 ghost use Rattle.dav_props.specs.Language.{is_language_list};
 ghost use Rattle.dav_props.specs.LanguageList.{accepts};
-ghost use Rattle.dav_props.specs.Live.{kind_of, kind_in_dav, kind_in_apache, kind_in_microsoft, node_is_text, node_text, holds_text_alone as tree_holds_text_alone, holds_languages as tree_holds_languages, set_status, remove_status, dead_status as status_of_dead, is_kept as is_kept_tree};
+ghost use Rattle.dav_props.specs.Live.{kind_of, kind_in_dav, kind_in_apache, kind_in_microsoft, node_is_text, node_text, holds_text_alone as tree_holds_text_alone, holds_languages as tree_holds_languages, set_status, remove_status, dead_status as status_of_dead, time_status as status_of_time, time_in as tree_time, node_time, patch_of_time, is_kept as is_kept_tree};
 
 use crate::language::LanguageList;
-use dav_resource::{Element, XMLNode};
+use dav_dates::read_http_date;
+use dav_resource::{Element, Profile, PropertyPatch, XMLNode};
 use http::StatusCode;
 
 /// What the name of a property says about setting and removing it.
@@ -24,21 +25,25 @@ pub(crate) enum PropertyKind {
     Fixed,
     /// A property that Microsoft's clients set. The response reports success, but the value is not stored.
     PassedOver,
+    /// When the resource was last modified, as Microsoft's clients set it. The profile says whether that changes the time.
+    ModificationTime,
+    /// When the resource was created, as Microsoft's clients set it. The profile says whether that changes the time.
+    CreationTime,
     /// A property that only the server sets.
     Protected,
 }
 
 /// Returns the status of setting a property (RFC 4918, sections 9.2.1 and 15):
 ///
-/// - 100 if the store has to set it. This is every dead property, and a valid `DAV:displayname` or
-///   `DAV:getcontentlanguage` if the store supports dead properties (`can_deadprop`).
-/// - 200 for a valid value of a property that Microsoft's clients set. It is not stored.
+/// - 100 if the store has to set it. This is every dead property, and, if the store supports dead properties
+///   (`can_deadprop`), a valid `DAV:displayname` or `DAV:getcontentlanguage` and, in a profile that sets times, a valid
+///   `Win32LastModifiedTime` or `Win32CreationTime`.
+/// - 200 for a valid value of a property that Microsoft's clients set and that is not stored.
 /// - 409 for a value that is not valid. A live property that is not protected must hold text and no element,
-///   and the text of `DAV:getcontentlanguage` must be a list of languages.
-/// - 403 for every other property, and for a valid `DAV:displayname` or `DAV:getcontentlanguage` if the store
-///   does not support dead properties.
-pub fn liveprop_set(prop: &Element, can_deadprop: bool) -> StatusCode
-    ensures { result ≡ set_status prop.now can_deadprop }
+///   the text of `DAV:getcontentlanguage` must be a list of languages, and a time that is set must be an HTTP date.
+/// - 403 for every other property, and for one that the store would have to set if it supported dead properties.
+pub fn liveprop_set(profile: Profile, prop: &Element, can_deadprop: bool) -> StatusCode
+    ensures { result ≡ set_status profile prop.now can_deadprop }
 {
     let kind = property_kind(prop);
     if kind == PropertyKind::Dead {
@@ -51,6 +56,9 @@ pub fn liveprop_set(prop: &Element, can_deadprop: bool) -> StatusCode
         return StatusCode::CONFLICT;
     }
     match kind {
+        PropertyKind::ModificationTime | PropertyKind::CreationTime => {
+            time_status(profile, prop, can_deadprop)
+        }
         PropertyKind::PassedOver => StatusCode::OK,
         PropertyKind::Fixed => StatusCode::FORBIDDEN,
         PropertyKind::ContentLanguage if !holds_languages(prop) => StatusCode::CONFLICT,
@@ -67,9 +75,7 @@ pub fn liveprop_remove(prop: &Element, can_deadprop: bool) -> StatusCode
     match property_kind(prop) {
         PropertyKind::Dead => StatusCode::CONTINUE,
         PropertyKind::DisplayName | PropertyKind::ContentLanguage => dead_status(can_deadprop),
-        PropertyKind::Fixed | PropertyKind::PassedOver | PropertyKind::Protected => {
-            StatusCode::FORBIDDEN
-        }
+        _ => StatusCode::FORBIDDEN,
     }
 }
 
@@ -80,7 +86,52 @@ pub fn is_kept(prop: &Element) -> bool
 {
     match property_kind(prop) {
         PropertyKind::Dead | PropertyKind::DisplayName | PropertyKind::ContentLanguage => true,
-        PropertyKind::Fixed | PropertyKind::PassedOver | PropertyKind::Protected => false,
+        _ => false,
+    }
+}
+
+/// Returns the change of a resource's times that the property asks for, if it is one of Microsoft's times with an HTTP date.
+pub(crate) fn time_patch(prop: &Element) -> Option<PropertyPatch>
+    ensures { result ≡ patch_of_time (kind_of prop.now.tag.namespace prop.now.tag.name) (tree_time prop.now) }
+{
+    match property_kind(prop) {
+        PropertyKind::ModificationTime => time_in(prop).map(PropertyPatch::Modified),
+        PropertyKind::CreationTime => time_in(prop).map(PropertyPatch::Created),
+        _ => None,
+    }
+}
+
+/// Returns the status of setting a time that holds text alone.
+fn time_status(profile: Profile, prop: &Element, can_deadprop: bool) -> StatusCode
+    ensures { result ≡ status_of_time profile prop.now can_deadprop }
+{
+    if !profile.sets_times() {
+        return StatusCode::OK;
+    }
+    if time_in(prop).is_some() {
+        dead_status(can_deadprop)
+    } else {
+        StatusCode::CONFLICT
+    }
+}
+
+/// Returns the time of an element whose only content is the text of an HTTP date, in seconds since 1970.
+fn time_in(prop: &Element) -> Option<u64>
+    ensures { result ≡ tree_time prop.now }
+{
+    match prop.children.as_slice() {
+        [node] => time_of(node),
+        _ => None,
+    }
+}
+
+/// Returns the time of a text that is an HTTP date, in seconds since 1970.
+fn time_of(node: &XMLNode) -> Option<u64>
+    ensures { result ≡ node_time node.now }
+{
+    match node {
+        XMLNode::Text(text) => read_http_date(text.as_str()),
+        XMLNode::Element(_) => None,
     }
 }
 
@@ -134,10 +185,9 @@ fn kind_in_microsoft(name: &str) -> PropertyKind
     ensures { result ≡ kind_in_microsoft name.now }
 {
     match name {
-        "Win32CreationTime"
-        | "Win32FileAttributes"
-        | "Win32LastAccessTime"
-        | "Win32LastModifiedTime" => PropertyKind::PassedOver,
+        "Win32LastModifiedTime" => PropertyKind::ModificationTime,
+        "Win32CreationTime" => PropertyKind::CreationTime,
+        "Win32LastAccessTime" | "Win32FileAttributes" => PropertyKind::PassedOver,
         _ => PropertyKind::Protected,
     }
 }

@@ -7,7 +7,7 @@ ghost use Rattle.dav_props.specs.Propstat.{grouped, propstat as tree_of_group, p
 ghost use Rattle.dav_props.specs.Groups.{groups_of, AddsProperty, AreStatuses};
 
 use dav_messages::{href_element, status_element};
-use dav_resource::{DavPath, Element, ElementName};
+use dav_resource::{DavPath, Element, ElementName, Profile};
 use http::StatusCode;
 use std::alloc::{AllocError, Global};
 use std::collections::BTreeMap;
@@ -50,15 +50,16 @@ fn add_property(
 /// out.
 pub(crate) fn property_response(
     alloc: Global,
+    profile: Profile,
     path: &DavPath,
     groups: BTreeMap<u16, Vec<Element>>,
 ) -> Result<Element, AllocError>
     requires { AreStatuses groups }
-    ensures { IfOk result (λ response. response ≡ response_of_groups path.now (groups_of groups)) }
+    ensures { IfOk result (λ response. response ≡ response_of_groups profile path.now (groups_of groups)) }
 {
     let mut response = Element::constant(alloc, ElementName::Response);
     response.children.reserve_exact(1 + groups.len())?;
-    response.push_element(href_element(alloc, path)?)?;
+    response.push_element(href_element(alloc, profile, path)?)?;
     for (status, elements) in groups {
         let status = StatusCode::from_u16(status).unwrap();
         response.push_element(propstat(alloc, status, elements)?)?;

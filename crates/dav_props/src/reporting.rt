@@ -4,12 +4,13 @@ ghost use Rattle.std.specs.Prelude.{◌≡◌, map, filter, IfOk};
 ghost use Rattle.dav_props.specs.Groups.{groups_of, AreStatuses};
 ghost use Rattle.dav_props.specs.Property.{bare};
 ghost use Rattle.dav_props.specs.Propstat.{grouped};
-ghost use Rattle.dav_props.specs.Update.{change_of, is_dead as is_dead_change, is_refused as is_refused_change, some_refused as some_refused_of, patch_of, patches_of, failed as failed_change, failed_report, live_made, made_report};
+ghost use Rattle.dav_props.specs.Update.{change_of, is_dead as is_dead_change, is_refused as is_refused_change, some_refused as some_refused_of, patch_of, set_patch as patch_that_sets, patches_of, failed as failed_change, failed_report, live_made, made_report};
 
+use crate::live::time_patch;
 use crate::property::{bare_element, element_to_davprop, element_to_davprop_full};
 use crate::propstat::group_by_status;
 use crate::update::PropertyChange;
-use dav_resource::{DavProp, Element};
+use dav_resource::{Element, PropertyPatch};
 use http::StatusCode;
 use std::alloc::{AllocError, Global};
 use std::collections::BTreeMap;
@@ -26,7 +27,7 @@ pub fn some_refused(changes: &[PropertyChange<'_>]) -> bool
 pub fn patches(
     alloc: Global,
     changes: &[PropertyChange<'_>],
-) -> Result<Vec<(bool, DavProp)>, AllocError>
+) -> Result<Vec<PropertyPatch>, AllocError>
     ensures { IfOk result (λ patches. patches.items ≡ patches_of (map change_of changes.now)) }
 {
     let mut patches = Vec::new(alloc);
@@ -125,16 +126,26 @@ fn failed(alloc: Global, change: &PropertyChange<'_>) -> Result<(StatusCode, Ele
     Ok((StatusCode::FAILED_DEPENDENCY, element))
 }
 
-/// Returns what the store has to do for a change. A property that is set has its element as its value.
-fn patch(change: &PropertyChange<'_>) -> Result<(bool, DavProp), AllocError>
+/// Returns what the store has to do for a change: to set a time, to set a property with the element as its value, or to
+/// remove one.
+fn patch(change: &PropertyChange<'_>) -> Result<PropertyPatch, AllocError>
     ensures { IfOk result (λ patch. patch ≡ patch_of (change_of change.now)) }
 {
-    let prop = if change.set {
-        element_to_davprop_full(change.element)?
-    } else {
-        element_to_davprop(change.element)?
-    };
-    Ok((change.set, prop))
+    if change.set {
+        return set_patch(change.element);
+    }
+    let prop = element_to_davprop(change.element)?;
+    Ok(PropertyPatch::Remove(prop))
+}
+
+/// Returns what the store has to do to set a property.
+fn set_patch(element: &Element) -> Result<PropertyPatch, AllocError>
+    ensures { IfOk result (λ patch. patch ≡ patch_that_sets element.now) }
+{
+    match time_patch(element) {
+        Some(patch) => Ok(patch),
+        None => Ok(PropertyPatch::Set(element_to_davprop_full(element)?)),
+    }
 }
 
 /// Returns whether the store has to make the change.

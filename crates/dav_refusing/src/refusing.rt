@@ -19,7 +19,7 @@ mod slot;
 
 use dav_resource::{
     BodyNumber, DavFile, DavPath, DavProp, DirEntry, Element, FsError, FsResult, Items, Meta, Op,
-    OpenOptions, Outcome, Paths, Record,
+    OpenOptions, Outcome, Paths, PropertyPatch, Record,
 };
 use dav_store::{GuardedFileSystem, one_path, two_paths};
 use dav_wrapping::{last_outcome, with_statuses};
@@ -396,7 +396,7 @@ impl<C, F: GuardedFileSystem<C>> GuardedFileSystem<C> for Refusing<F> {
     fn patch_props(
         &mut self,
         path: &DavPath,
-        patches: &[(bool, DavProp)],
+        patches: &[PropertyPatch],
         credentials: &C,
     ) -> FsResult<Vec<StatusCode>>
         requires some { patches.now ≢ [] }

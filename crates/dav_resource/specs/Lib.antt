@@ -1,6 +1,7 @@
 pub mod Errors
 pub mod Gives
 pub mod PathText
+pub mod Escapes
 pub mod PathForms
 pub mod PathLaws
 pub mod Paths

@@ -142,21 +142,31 @@ read_path_below text prefix =
 abbrev pub is_unreserved : ℕ → Bool
 is_unreserved b = is_ascii_alphanumeric b || b == 45 || b == 46 || b == 95 || b == 126
 
--- percent-encoding: every other byte becomes `%` and two upper-case hexadecimal digits
-abbrev pub escape : List ℕ → List ℕ
-escape bytes = flat_map (λ b. if is_unreserved b then b ∷ [] else percent_encode_byte b) bytes
+-- percent-encoding: every byte that is not kept becomes `%` and two upper-case hexadecimal digits
+abbrev pub escape_but : (ℕ → Bool) → List ℕ → List ℕ
+escape_but keeps bytes = flat_map (λ b. if keeps b then b ∷ [] else percent_encode_byte b) bytes
 
 -- `/` and the percent-encoded segment, for each segment
-abbrev pub key_text : Key → List ℕ
-key_text key = flat_map (λ segment. 47 ∷ escape segment) key
+abbrev pub key_text_but : (ℕ → Bool) → Key → List ℕ
+key_text_but keeps key = flat_map (λ segment. 47 ∷ escape_but keeps segment) key
 
 -- the trailing slash, which the root always has
 abbrev pub last_slash : Bool → Key → List ℕ
 last_slash slash key = if slash || length key == 0 then 47 ∷ [] else []
 
--- the path as a string, without its prefix
+-- the path as a string in which these bytes of its segments are kept, without its prefix
+abbrev pub url_text_but : (ℕ → Bool) → PathValue → List ℕ
+url_text_but keeps path = if path.star then codes "*" else key_text_but keeps path.key ++ last_slash path.slash path.key
+
+-- the same where only the unreserved characters are kept
+abbrev pub escape : List ℕ → List ℕ
+escape bytes = escape_but is_unreserved bytes
+
+abbrev pub key_text : Key → List ℕ
+key_text key = key_text_but is_unreserved key
+
 abbrev pub url_text : PathValue → List ℕ
-url_text path = if path.star then codes "*" else key_text path.key ++ last_slash path.slash path.key
+url_text path = url_text_but is_unreserved path
 
 -- ---- keys
 

@@ -30,7 +30,7 @@ pub use method::{DavMethod, DavMethodSet};
 pub use path::{DavPath, is_segment};
 pub use paths::Paths;
 pub use profile::Profile;
-pub use property::DavProp;
+pub use property::{DavProp, PropertyPatch};
 pub use record::{Op, Outcome, Record};
 pub use request::{Body, DavRequest, Depth, ReqBody};
 pub use shared_element::SharedElement;

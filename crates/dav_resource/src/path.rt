@@ -4,9 +4,11 @@ ghost use Rattle.std.specs.List.{starts_with};
 ghost use Rattle.http_header.specs.FieldValue.{IsFieldValue};
 ghost use Rattle.dav_resource.specs.Gives.{GivesBy};
 ghost use Rattle.dav_resource.specs.PathText.{read_path, read_path_below, url_text, star_path, IsKey, IsSegment};
+ghost use Rattle.dav_resource.specs.Profile.{href_text};
 ghost use Rattle.dav_resource.specs.PathForms.{root_path, is_collection, resource_path, parent_path, member_path, prefixed, file_name, ReadsBack};
 ghost use Rattle.dav_resource.specs.Mime.{mime_type_of};
 
+use crate::Profile;
 use crate::error::DavResult;
 use dav_key::{FlatKey, Segments};
 use std::alloc::{AllocError, Global};
@@ -262,7 +264,23 @@ impl DavPath {
         ensures reads_back { IfOk result (λ text. ReadsBack self.now (string_bytes text)) }
         ensures field_value { IfOk result (λ text. IsFieldValue (string_bytes text)) }
     {
-        write::path_text(self.star, self.slash, &self.key)
+        write::path_text(write::ESCAPED, self.star, self.slash, &self.key)
+    }
+
+    /// Writes the path as a `D:href` has it (RFC 4918, section 14.7), without its prefix, as `as_url_string` does. In the
+    /// profile `Standard` the characters `!$'()*+,:=@` are written as they are, as clients write them that compare it with
+    /// an URL of their own. Parsing the result below no prefix gives the path again, without its prefix. Fails only if
+    /// memory runs out.
+    pub fn as_href(&self, profile: Profile) -> Result<String, AllocError>
+        ensures value { IfOk result (λ text. string_bytes text ≡ href_text profile self.now) }
+        ensures reads_back { IfOk result (λ text. ReadsBack self.now (string_bytes text)) }
+    {
+        write::path_text(
+            write::escaped_in_href(profile),
+            self.star,
+            self.slash,
+            &self.key,
+        )
     }
 
     /// The bytes of the last segment. They are empty for the root.

@@ -1,6 +1,6 @@
 //! Where an engine may do what the crate that it was ported from does, or what the standards say.
 ghost use Rattle.std.specs.Prelude.{◌≡◌};
-ghost use Rattle.dav_resource.specs.Profile.{repeats_request, depth_word};
+ghost use Rattle.dav_resource.specs.Profile.{repeats_request, depth_word, sets_times};
 
 /// What an engine does where the Rust crate and the standards differ. No request changes it.
 #[derive(Clone, Copy, Debug, PartialEq, Eq)]
@@ -31,6 +31,17 @@ impl Profile {
         match self {
             Profile::Crate => "Infinity",
             Profile::Standard => "infinity",
+        }
+    }
+
+    /// Returns whether a PROPPATCH of `Win32LastModifiedTime` and `Win32CreationTime` sets the times of the resource.
+    /// Otherwise it succeeds and changes nothing.
+    pub fn sets_times(self) -> bool
+        ensures { result ≡ sets_times self }
+    {
+        match self {
+            Profile::Crate => false,
+            Profile::Standard => true,
         }
     }
 }

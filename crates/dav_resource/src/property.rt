@@ -35,6 +35,19 @@ impl DavProp {
     }
 }
 
+/// A change of the properties of a resource that a store makes (RFC 4918, section 9.2). Times are whole seconds since 1970.
+#[derive(Drop, Debug)]
+pub enum PropertyPatch {
+    /// Sets a dead property to the element that it has.
+    Set(DavProp),
+    /// Removes the dead property of this name, if there is one.
+    Remove(DavProp),
+    /// Sets when the resource was last modified.
+    Modified(u64),
+    /// Sets when the resource was created.
+    Created(u64),
+}
+
 /// Copies an optional string.
 fn clone_text(text: Option<&Text>) -> Result<Option<Text>, AllocError>
     ensures { IfOk result (λ copy. copy ≡ option_copied text.entry) }

@@ -2,11 +2,14 @@
 use Rattle.std.specs.Prelude.{◌≡◌, ◌≢◌, ℕ, ◌==◌, Bool, true, false, if◌then◌else◌, List, [], ◌∷◌, ◌++◌, map, length, replicate, Option, Some, None, Result, Vec, ◌⊎◌, IfOk, IfErr, IsPermutation}
 use Rattle.std.specs.declared.alloc.Global.{Global}
 use Rattle.std.specs.List.{fold}
-use Rattle.std.specs.Option.{unwrap_or, option_map}
+use Rattle.std.specs.Option.{unwrap_or, option_map, option_and_then, ForSome}
 use Rattle.std.specs.FinMap.{empty, get, remove, entries, len}
 use Rattle.dav_key.specs.Key.{Key}
 use Rattle.dav_resource.specs.Tree as elements
+use Rattle.dav_resource.specs.declared.meta.Meta.{Meta}
 use Rattle.dav_resource.specs.declared.property.DavProp.{DavProp}
+use Rattle.dav_resource.specs.declared.property.PropertyPatch.{PropertyPatch}
+use Rattle.dav_resource.specs.declared.property.PropertyPatch.TheVariants.{Set, Remove, Modified, Created}
 use Rattle.dav_resource.specs.declared.record.Outcome.{Outcome}
 use Rattle.dav_resource.specs.declared.record.Outcome.TheVariants.{Granted, Refused}
 use Rattle.dav_resource.specs.declared.record.Op.TheVariants.{GetProp, GetProps, PatchProps, GetQuota}
@@ -73,22 +76,43 @@ GetsProps old key = Answers (get_props_call old key) (λ props. ArePropertiesAt 
 
 -- ---- patch_props
 
--- a property to set (`true`) or to remove (`false`)
+-- a change of the properties of a resource
 abbrev pub Patch : Type 0
-Patch = Bool × DavProp
+Patch = PropertyPatch
 
 -- a property to set has an element of its own name
 abbrev pub IsWhole : Patch → Type 0
-IsWhole (true, prop) = option_map element_key prop.element ≡ Some (name_of prop)
-IsWhole (false, prop) = Unit {0}
+IsWhole (Set prop) = option_map element_key prop.element ≡ Some (name_of prop)
+IsWhole _ = Unit {0}
 
 -- the properties after one change, and after all changes in order
 abbrev pub patch : PropertyMap → Patch → PropertyMap
-patch properties (true, prop) = put_at properties (name_of prop) prop.element
-patch properties (false, prop) = remove properties (name_of prop)
+patch properties (Set prop) = put_at properties (name_of prop) prop.element
+patch properties (Remove prop) = remove properties (name_of prop)
+patch properties _ = properties
 
 abbrev pub patched : List Patch → PropertyMap → PropertyMap
 patched patches properties = fold patch properties patches
+
+-- the times that one change sets, and that all of them set, each time the last of its kind
+abbrev pub then_modified : Option ℕ → Patch → Option ℕ
+then_modified time (Modified secs) = Some secs
+then_modified time _ = time
+
+abbrev pub then_created : Option ℕ → Patch → Option ℕ
+then_created time (Created secs) = Some secs
+then_created time _ = time
+
+abbrev pub set_modified : List Patch → Option ℕ
+set_modified patches = fold then_modified None patches
+
+abbrev pub set_created : List Patch → Option ℕ
+set_created patches = fold then_created None patches
+
+-- the metadata has each time that is set
+pub record HasTimes (patches : List Patch) (meta : Option Meta) : Type 0 where
+  pub modified : ForSome (set_modified patches) (λ secs. option_and_then (λ (m : Meta). m.modified) meta ≡ Some secs)
+  pub created : ForSome (set_created patches) (λ secs. option_and_then (λ (m : Meta). m.created) meta ≡ Some secs)
 
 -- no map, if there are no properties
 abbrev pub some_properties : PropertyMap → Option PropertyMap
@@ -105,6 +129,7 @@ patch_record key outcome statuses = record { op = PatchProps; keys = key ∷ [];
 pub record IsPatchedAt (key : Key) (patches : List Patch) (old new : Contents) : Type 0 where
   pub tree : new.tree ≡ old.tree
   pub properties : new.properties ≡ put_at old.properties key (some_properties (patched patches (properties_at old key)))
+  pub times : HasTimes patches (new.metas key)
   pub limit : limit_of new ≡ limit_of old
 
 -- all changes are made, and each status is 200

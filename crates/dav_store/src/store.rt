@@ -10,7 +10,8 @@ ghost use Rattle.dav_store.specs.Transfers.{Copies, Renames};
 ghost use Rattle.dav_store.specs.PropertyCalls.{GetsProp, GetsProps, PatchesProps, GetsQuota, IsWhole, name_of};
 
 use dav_resource::{
-    BodyNumber, DavFile, DavPath, DavProp, DirEntry, Element, FsResult, Meta, OpenOptions, Record,
+    BodyNumber, DavFile, DavPath, DavProp, DirEntry, Element, FsResult, Meta, OpenOptions,
+    PropertyPatch, Record,
 };
 use http::StatusCode;
 
@@ -33,7 +34,7 @@ use http::StatusCode;
 /// member that it does not list. One call differs from the outcomes above: `patch_props` can return `Ok` for a
 /// call that is recorded as refused. A call that is not granted changes nothing except the log. After a granted
 /// change the times and entity tags of any resource, the length of a directory and the number of used bytes may
-/// be any that are well formed.
+/// be any that are well formed, but for a time that the call sets.
 ///
 /// A store also holds bodies of requests, each under a number. The calls `start_body`, `add_to_body`,
 /// `drop_body` and `body_length` leave no record. They are for the HTTP server, which passes a body on piece by
@@ -194,7 +195,7 @@ pub trait GuardedFileSystem<C> {
     fn get_props(&mut self, path: &DavPath, credentials: &C) -> FsResult<Vec<DavProp>>
         ensures { GetsProps (seen self.old) path.now.key result (seen self.new) };
 
-    /// Sets (`true`) or removes (`false`) dead properties in the given order, and returns a status for each
+    /// Sets and removes dead properties, and sets times of the resource, in the given order. Returns a status for each
     /// change.
     ///
     /// If all changes are made, each status is 200. Otherwise no change is made, and not all statuses are
@@ -205,7 +206,7 @@ pub trait GuardedFileSystem<C> {
     fn patch_props(
         &mut self,
         path: &DavPath,
-        patches: &[(bool, DavProp)],
+        patches: &[PropertyPatch],
         credentials: &C,
     ) -> FsResult<Vec<StatusCode>>
         requires some { patches.now ≢ [] }

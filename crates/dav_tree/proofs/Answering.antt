@@ -1,13 +1,13 @@
 -- What a call answers and records, as the engine sees it.
-use Rattle.std.proofs.Common.{◌≡◌, ◌≢◌, ◌∙◌, ℕ, Bool, true, false, Option, Some, None, Result, Ok, Err, refl, sym, ap, subst, ◌⊎◌, inl, inr, List, [], ◌∷◌, ◌++◌, ◌+◌, map, length, replicate, ◌||◌, ◌==◌, if◌then◌else◌, arith, IsPermutation}
+use Rattle.std.proofs.Common.{◌≡◌, ◌≢◌, ◌∙◌, ℕ, Bool, true, false, cond, Option, Some, None, Result, Ok, Err, refl, sym, ap, subst, ◌⊎◌, inl, inr, List, [], ◌∷◌, ◌++◌, ◌+◌, map, length, replicate, ◌||◌, ◌==◌, if◌then◌else◌, arith, IsPermutation}
 use Rattle.std.proofs.lemmas.Bool.Decides.{nat_tests}
 use Rattle.std.proofs.lemmas.List.{map-append}
 use Rattle.std.proofs.lemmas.List.Sorted.{IsPermutation-refl}
 use Rattle.std.specs.Prelude.{IfOk, IfSome, Vec}
 use Rattle.std.specs.declared.alloc.Global.{Global}
-use Rattle.std.specs.Option.{option_map, option_and_then, unwrap_or}
+use Rattle.std.specs.Option.{option_map, option_and_then, unwrap_or, ForSome}
 use Rattle.std.specs.FinMap.{empty, get, get-empty, insert, len, len-empty, empty_of_len}
-use Rattle.dav_key.specs.Key.{Key, key_cmp, parent}
+use Rattle.dav_key.specs.Key.{Key, key_cmp, tied_decides, parent}
 use Rattle.dav_resource.specs.Tree as elements
 use Rattle.dav_resource.specs.PathText.{PathValue}
 use Rattle.dav_resource.specs.declared.property.DavProp.{DavProp}
@@ -21,15 +21,15 @@ use Rattle.dav_resource.specs.declared.record.Record.{Record}
 use Rattle.dav_resource.specs.declared.error.FsError.{FsError}
 use Rattle.dav_resource.specs.declared.error.FsError.TheVariants.{NotImplemented, GeneralFailure, Exists, NotFound, Forbidden, InsufficientStorage, LoopDetected, PathTooLong, TooLarge, IsRemote, Memory}
 use Rattle.dav_key.specs.Below.{put_at, is_below, IsMoved}
-use Rattle.dav_key.specs.EachLaws.{each-put_at, each-IsMoved, put_at-same}
+use Rattle.dav_key.specs.EachLaws.{each-put_at, each-IsMoved, get-put_at, put_at-same}
 use Rattle.dav_store.specs.Logged.{logged_of}
 use Rattle.dav_store.specs.Store.{Node, File, Directory, Quota, Contents, Store}
 use Rattle.dav_store.specs.Calls.{Call, Answers, Declines, IsLawful, IsOwn, error_of, limit_of, create_dir_bar, open_bar, file_bar, bytes_at, must_be_file, IsMadeAt, IsOpened, IsWritten}
 use Rattle.dav_store.specs.Members.{remove_dir_bar, read_dir_bar, IsRemovedAt}
 use Rattle.dav_store.specs.Transfers.{copy_bar, rename_bar, IsCopiedTo, IsRenamedTo}
-use Rattle.dav_store.specs.PropertyCalls.{Patch, patched, some_properties, properties_at, get_prop_bar, properties_bar, get_quota_bar, IsPatchedAt, ArePropertiesAt, PatchesProps, patch_props_call}
+use Rattle.dav_store.specs.PropertyCalls.{Patch, HasTimes, set_modified, set_created, patched, some_properties, properties_at, get_prop_bar, properties_bar, get_quota_bar, IsPatchedAt, ArePropertiesAt, PatchesProps, patch_props_call}
 use Rattle.dav_tree.specs.Memory as memory
-use Rattle.dav_tree.specs.Memory.{Stored, Resources, tree_of, properties_of, contents_of, seen_of, change_at, with_bytes, with_properties, copy_of, fresh, facts_of, facts_by, made, filled, without, copied, with_patches, marked, added, removed, marked_by_copy, copied_into, IsRenamed, IsRenamedAndMarked}
+use Rattle.dav_tree.specs.Memory.{Stored, Resources, tree_of, properties_of, meta_of, contents_of, seen_of, change_at, with_bytes, patched_by, copy_of, fresh, facts_of, facts_by, made, filled, without, copied, with_patches, marked, added, removed, marked_by_copy, copied_into, IsRenamed, IsRenamedAndMarked}
 use Rattle.dav_tree.specs.MemoryCalls.{IsDue, YieldsOver, Yields, Gives, Records, RecordsWith, outcome_of, change_error, has_room, mark_error, member_error, error_of_copy, open_error, error_of_opening, opened, opened_from, file_error, write_error, written, copy_error, properties_error, IsPropertyList}
 use Rattle.dav_store.specs.Logged.{record_with}
 use Rattle.dav_tree.specs.Lawful.{node_in, get-tree, get-properties}
@@ -519,15 +519,31 @@ there_kept : (o : Option Stored) → properties_bar true (option_map node_in o) 
 there_kept None e = absurd cc
 there_kept (Some s) e = (s, refl)
 
+-- the metadata of a resource that is there
+meta_there : (m : memory.Memory) (key : Key) (s : Stored) → get m.resources key ≡ Some s → (contents_of m).metas key ≡ Some (meta_of m.tag_part s)
+meta_there m key s here = ap (option_map (meta_of m.tag_part)) here
+
+-- it has the times that are set
+patched_times : (patches : List Patch) (part : Option ℕ) (s : Stored) → HasTimes patches (Some (meta_of part (patched_by patches s)))
+patched_times patches part s = record { modified = is_set s.modified (set_modified patches); created = is_set s.created (set_created patches) }
+  where
+    is_set : (was : ℕ) (time : Option ℕ) → ForSome time (λ secs. Some (unwrap_or time was) ≡ Some secs)
+    is_set was None = λ secs none. absurd cc
+    is_set was (Some time) = λ secs same. same
+
 pub patches_at : (key : Key) (patches : List Patch) (old new : memory.Memory) → properties_error key old ≡ None → new ≡ with_patches key patches old → IsPatchedAt key patches (contents_of old) (contents_of new)
 patches_at key patches old new none is =
     let (s, here) = there_kept (get old.resources key) (ap (properties_bar true) (sym (get-tree old.resources key)) ∙ none) in
-    let change = λ (s : Stored). with_properties (patched patches s.properties) s in
+    let change = patched_by patches in
+    let there : get new.resources key ≡ Some (change s) =
+    ap (λ (m : memory.Memory). get m.resources key) is ∙ get-put_at old.resources key (option_map change (get old.resources key)) key
+    ∙ ap (λ b. cond b (option_map change (get old.resources key)) (get old.resources key)) ((tied_decides key key).1 refl) ∙ ap (option_map change) here in
     record {
       tree = ap (λ (m : memory.Memory). tree_of m.resources) is ∙ changed-tree old.resources key change s here
           ∙ put_at-same (tree_of old.resources) key (Some s.node) (get-tree old.resources key ∙ ap (option_map node_in) here);
       properties = ap (λ (m : memory.Memory). properties_of m.resources) is ∙ ap (λ o. properties_of (put_at old.resources key (option_map change o))) here ∙ properties-put old.resources key (change s)
           ∙ ap (λ p. put_at (properties_of old.resources) key (some_properties (patched patches p))) (sym (properties-kept old key ∙ ap (λ o. unwrap_or (option_map (λ s. s.properties) o) empty) here));
+      times = subst (HasTimes patches) (sym (meta_there new key (change s) there)) (patched_times patches new.tag_part s);
       limit = no_limit_change old new (ap (λ (m : memory.Memory). m.limit) is);
     }
 

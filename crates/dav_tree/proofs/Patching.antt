@@ -11,11 +11,11 @@ use Rattle.dav_key.specs.Key.{Key, key_cmp, key_cmp_total, key_cmp_exact, tied_d
 use Rattle.dav_resource.specs.Tree.{Tree}
 use Rattle.dav_key.specs.Below.{put_at}
 use Rattle.dav_store.specs.Store.{PropertyMap}
-use Rattle.dav_store.specs.PropertyCalls.{Patch, name_of, patch, patched}
+use Rattle.dav_store.specs.PropertyCalls.{Patch, patch, patched}
 use Rattle.dav_key.specs.EachLaws.{get-put_at, find_below, both_parts, or_none}
 use Rattle.dav_tree.specs.OrderedMaps.{seen_entries}
 use Rattle.dav_tree.specs.PropertyNames.{key_of, name_cmp}
-use Rattle.dav_tree.specs.Patching.{Changes, changes_of, wanted, replaced_by, ArePut, AreKept, AreTaken, AreOthers, AreChanged, Planned, IsPlan}
+use Rattle.dav_tree.specs.Patching.{Changes, changes_of, replaced_by, ArePut, AreKept, AreTaken, AreOthers, AreChanged, Planned, IsPlan}
 use Rattle.dav_tree.specs.declared.properties.PropertyName.{PropertyName}
 use Rattle.dav_tree.proofs.OrderedKeys.{entries-map}
 use Rattle.dav_tree.proofs.PropertyMaps.{names_agree}
@@ -24,19 +24,11 @@ use lib.Dec.{T}
 abbrev same : Key → Key → Bool
 same a b = eq_by_cmp key_cmp a b
 
--- a change puts what it wants at its name
-pub patch-wanted : (m : PropertyMap) (change : Patch) → put_at m (name_of change.1) (wanted change) ≡ patch m change
-patch-wanted m (true, prop) = refl
-patch-wanted m (false, prop) = refl
-
 -- one change more
 pub planned-more : (old added : PropertyMap) (changes : Changes) (patches : List Patch) (i : ℕ) (change : Patch) → i < length patches → change ≡ get_or patches i change
-    → (k : Key) (e : Option Tree) → k ≡ name_of change.1 → e ≡ wanted change
-    → IsPlan old added changes (put_at (patched (take i patches) old) k e) → IsPlan old added changes (patched (take (i + 1) patches) old)
-planned-more old added changes patches i change within is k e name gives =
-    let before : PropertyMap = patched (take i patches) old in
-    subst (IsPlan old added changes)
-    ((λ i. put_at before (name i) (gives i)) ∙ patch-wanted before change ∙ ap (patch before) is ∙ sym (fold_more patch old patches i change within))
+    → IsPlan old added changes (patch (patched (take i patches) old) change) → IsPlan old added changes (patched (take (i + 1) patches) old)
+planned-more old added changes patches i change within is gives =
+    subst (IsPlan old added changes) (ap (patch (patched (take i patches) old)) is ∙ sym (fold_more patch old patches i change within)) gives
 
 -- ---- the plan
 

@@ -17,7 +17,7 @@ use Rattle.dav_store.specs.MemberLaws.{parent-below, member-parent, parent-membe
 use Rattle.dav_store.specs.Transfers.{IsMoved}
 use Rattle.dav_key.specs.EachLaws.{get-put_at, each-put_at, each-IsMoved, put_at-same}
 use Rattle.dav_tree.specs.Lawful.{node_in, get-tree}
-use Rattle.dav_tree.specs.Memory.{Stored, Resources, tree_of, IsSound, is_directory, change_at, with_bytes, with_properties}
+use Rattle.dav_tree.specs.Memory.{Stored, Resources, tree_of, IsSound, is_directory, change_at, with_bytes, patched_by}
 use Rattle.dav_tree.proofs.Answering.{tree-put, changed-tree}
 use Rattle.dav_tree.proofs.Named.{named-empty, named-patched}
 
@@ -125,9 +125,9 @@ sound-beside old new key change same named sound is = sound-tree new (tree_of ol
     nodes (Some s) = ap Some (sym (same s))
 
 -- the properties of a resource are changed
-pub sound-patched : (old new : Resources) (key : Key) (patches : List Patch) → IsSound old → new ≡ change_at key (λ s. with_properties (patched patches s.properties) s) old → All IsWhole patches → IsSound new
+pub sound-patched : (old new : Resources) (key : Key) (patches : List Patch) → IsSound old → new ≡ change_at key (patched_by patches) old → All IsWhole patches → IsSound new
 sound-patched old new key patches sound is whole =
-    sound-beside old new key (λ s. with_properties (patched patches s.properties) s) (λ s. refl) (λ s named. named-patched patches s.properties named whole) sound is
+    sound-beside old new key (patched_by patches) (λ s. refl) (λ s named. named-patched patches s.properties named whole) sound is
 
 -- the root alone
 pub sound-root : (resources : Resources) (s : Stored) → resources ≡ insert empty [] s → s.node ≡ Directory → s.properties ≡ empty → IsSound resources

@@ -1,6 +1,6 @@
 -- The state of the in-memory store without its log, and the effects of its calls on it: this project's own choice.
 use Rattle.std.specs.Prelude.{◌≡◌, ◌≢◌, ℕ, ◌+◌, ◌-◌, ◌/◌, ◌%◌, ◌^◌, min, Bool, true, false, if◌then◌else◌, List, [], ◌++◌, length, replicate, Option, Some, None, codes}
-use Rattle.std.specs.Option.{option_map}
+use Rattle.std.specs.Option.{option_map, unwrap_or}
 use Rattle.std.specs.List.{sum_by}
 use Rattle.std.specs.Fmt.{digits}
 use Rattle.std.specs.FinMap.{FinMap, empty, get, insert, remove, entries}
@@ -14,7 +14,7 @@ use Rattle.dav_store.specs.Store.{Node, File, Directory, Tree, PropertyMap, Prop
 use Rattle.dav_store.specs.Calls.{bytes_at, written_at}
 use Rattle.dav_store.specs.BodyCalls.{put_body, stored_bytes}
 use Rattle.dav_store.specs.Transfers.{IsMoved}
-use Rattle.dav_store.specs.PropertyCalls.{Patch, patched, some_properties}
+use Rattle.dav_store.specs.PropertyCalls.{Patch, patched, set_modified, set_created, some_properties}
 
 -- a stored resource: its version, the number of its last counted change, gives its entity tag
 pub record Stored : Type 0 where
@@ -144,9 +144,6 @@ made_when (Some s) now = s.created
 abbrev pub copy_of : Option Stored → ℕ → ℕ → Stored → Stored
 copy_of there version now s = record s { version = version; created = made_when there now; modified = now }
 
-abbrev pub with_properties : PropertyMap → Stored → Stored
-with_properties properties s = record s { properties = properties }
-
 abbrev pub with_modified : ℕ → Stored → Stored
 with_modified time s = record s { modified = time }
 
@@ -199,9 +196,18 @@ marked_by_copy (Some s) key old = old
 abbrev pub copied_into : Key → Key → Memory → Memory
 copied_into from to old = marked_by_copy (get old.resources to) to (copied from to old)
 
--- the properties at the key are changed; this does not count as a change
+-- the resource with its properties changed, and with each time that is set
+abbrev pub patched_by : List Patch → Stored → Stored
+patched_by patches s =
+    record s {
+      created = unwrap_or (set_created patches) s.created;
+      modified = unwrap_or (set_modified patches) s.modified;
+      properties = patched patches s.properties;
+    }
+
+-- the properties and times at the key are changed; this does not count as a change
 abbrev pub with_patches : Key → List Patch → Memory → Memory
-with_patches key patches old = record old { resources = change_at key (λ s. with_properties (patched patches s.properties) s) old.resources }
+with_patches key patches old = record old { resources = change_at key (patched_by patches) old.resources }
 
 -- the resource at the key was last modified at this time; this does not count as a change
 abbrev pub modified_at : Key → ℕ → Memory → Memory

@@ -1,20 +1,16 @@
 -- How the in-memory store changes the dead properties of a resource: this project's own choice.
-use Rattle.std.specs.Prelude.{◌≡◌, true, false, if◌then◌else◌, Option, Some, None, is_some}
+use Rattle.std.specs.Prelude.{◌≡◌, true, if◌then◌else◌, Option, Some, None, is_some}
 use Rattle.std.specs.Option.{option_and_then, option_or}
 use Rattle.std.specs.FinMap.{FinMap, get}
 use Rattle.std.specs.BTreeMap.{BTreeMap}
+use Rattle.dav_key.specs.Below.{put_at}
 use Rattle.dav_key.specs.Key.{Key, key_cmp}
 use Rattle.dav_resource.specs.Tree.{Tree}
 use Rattle.dav_store.specs.Store.{PropertyMap}
-use Rattle.dav_store.specs.PropertyCalls.{Patch}
 use Rattle.dav_tree.specs.OrderedMaps.{seen_map}
 use Rattle.dav_tree.specs.PropertyNames.{key_of}
 use Rattle.dav_tree.specs.declared.properties.PropertyName.{PropertyName}
-
--- the element that a change gives its property, if any
-abbrev pub wanted : Patch → Option Tree
-wanted (true, prop) = prop.element
-wanted (false, prop) = None
+use Rattle.dav_tree.specs.declared.properties.patching.Plan.{Plan}
 
 -- changes of properties by their names
 abbrev pub Changes : Type 0
@@ -56,3 +52,9 @@ Planned (Some element) added change want = (added ≡ None) × (replaced_by chan
 -- these additions and changes turn the old properties into the wanted ones
 abbrev pub IsPlan : PropertyMap → PropertyMap → Changes → PropertyMap → Type 0
 IsPlan old added changes want = (q : Key) → Planned (get old q) (get added q) (get changes q) (get want q)
+
+-- whatever a plan comes to, the next one comes to the same with this element at the name, or with none there
+abbrev pub PlansMore : PropertyMap → Plan → Plan → Key → Option Tree → Type 0
+PlansMore old before after name element =
+    (want : PropertyMap) → IsPlan old before.added (changes_of before.changed) want
+    → IsPlan old after.added (changes_of after.changed) (put_at want name element)

@@ -5,8 +5,7 @@ ghost use Rattle.dav_key.specs.Key.{Key, parent};
 ghost use Rattle.dav_key.specs.Below.{AreApart, IsMoved};
 ghost use Rattle.dav_nodes.specs.Noted.{tree_of, before_of};
 ghost use Rattle.dav_store.specs.Store.{File, Directory};
-ghost use Rattle.dav_store.specs.PropertyCalls.{patched};
-ghost use Rattle.dav_tree.specs.Memory.{Stored, used_by, size_of, meta_of, fresh, touched, with_properties, with_modified, asked};
+ghost use Rattle.dav_tree.specs.Memory.{Stored, used_by, size_of, meta_of, fresh, touched, patched_by, with_modified, asked};
 ghost use Rattle.dav_nodes.specs.Rows.{row_in};
 ghost use Rattle.dav_tree.specs.Before.{IsNotedBetween, IsSaved, HasSaved, HasTree, HasEntry, HasNoEntry};
 ghost use Rattle.dav_tree.specs.KeptCalls.{IsUnchanged, IsChangedAt, ChangesAt};
@@ -25,7 +24,7 @@ use crate::medium::Medium;
 use crate::properties::Properties;
 use dav_key::FlatKey;
 use dav_nodes::{Changes, Nodes, NotedNodes, PlacedValue};
-use dav_resource::{DavProp, FsResult, Meta};
+use dav_resource::{FsResult, Meta, PropertyPatch};
 pub(crate) use soundness::are_sound;
 use std::alloc::{AllocError, Global};
 use std::collections::BTreeMap;
@@ -282,15 +281,15 @@ impl<M: Medium> Entries<M> {
         self.medium
     }
 
-    /// Sets and removes properties of the resource with a number, as `Properties::patch` does. Fails only if
-    /// memory runs out, and then nothing changes.
-    pub fn patch(&mut self, number: usize, patches: &[(bool, DavProp)]) -> Result<(), AllocError>
+    /// Sets and removes properties of the resource with a number, and sets its times, as `Entry::patch` does. Fails only
+    /// if memory runs out, and then nothing changes.
+    pub fn patch(&mut self, number: usize, patches: &[PropertyPatch]) -> Result<(), AllocError>
         requires { IsNumber self.old number }
-        ensures ok { ChangesAt result number (λ s. with_properties (patched patches.now s.properties) s) self.old self.new }
+        ensures ok { ChangesAt result number (patched_by patches.now) self.old self.new }
         ensures err { OnErr result (IsUnchanged self.old self.new) }
     {
         let mut entry = take(self.alloc, &mut self.tree, number);
-        let answer = entry.properties.patch(patches);
+        let answer = entry.patch(patches);
         self.tree.exchange(number, &mut entry);
         answer
     }

@@ -1,13 +1,14 @@
 //! One resource of a store.
 ghost use Rattle.std.specs.Prelude.{◌≡◌, ◌<◌, ◌+◌, ◌^◌, ℕ, List, length, IfOk, IfErr, OnOk, OnErr, true, false, ◌++◌, string_bytes};
 ghost use Rattle.std.specs.FinMap as map;
-ghost use Rattle.dav_tree.specs.Memory.{is_directory, size_of, tag_text, meta_of};
+ghost use Rattle.dav_store.specs.PropertyCalls.{set_modified, set_created, then_modified, then_created};
+ghost use Rattle.dav_tree.specs.Memory.{is_directory, size_of, tag_text, meta_of, patched_by};
 ghost use Rattle.dav_tree.specs.Bodies.{KeepsBodies, FailsFor};
 ghost use Rattle.dav_tree.specs.Entry.{node_by, stored_by, remade, IsWrittenTo, is_held, is_file};
 
 use crate::medium::Medium;
 use crate::properties::Properties;
-use dav_resource::{FsResult, Meta, Text};
+use dav_resource::{FsResult, Meta, PropertyPatch, Text};
 use std::alloc::{AllocError, Global};
 
 /// What is at a key: a file, with the body that has its bytes, or a directory.
@@ -50,11 +51,66 @@ impl<B> Entry<B> {
         }
     }
 
+    /// Sets and removes properties as `Properties::patch` does, and then sets the times that the changes set, each to the
+    /// last one of its kind. Fails only if memory runs out, and then nothing changes.
+    pub fn patch(&mut self, patches: &[PropertyPatch]) -> Result<(), AllocError>
+        ensures ok { (bytes : B → List ℕ) → OnOk result (stored_by bytes self.new ≡ patched_by patches.now (stored_by bytes self.old)) }
+        ensures content { self.new.content ≡ self.old.content }
+        ensures err { OnErr result (self.new ≡ self.old) }
+    {
+        self.properties.patch(patches)?;
+        self.modified = set_modified(patches).unwrap_or(self.modified);
+        self.created = set_created(patches).unwrap_or(self.created);
+        Ok(())
+    }
+
     /// Returns whether the resource is a directory.
     pub fn is_directory(&self) -> bool
         ensures { (bytes : B → List ℕ) → result ≡ is_directory (stored_by bytes self.now).node }
     {
         matches!(self.content, Content::Directory)
+    }
+}
+
+/// Returns when the resource was last modified, if some change sets that, as the last one of them says.
+fn set_modified(patches: &[PropertyPatch]) -> Option<u64>
+    ensures { result ≡ set_modified patches.now }
+{
+    let mut time = None;
+    for patch in patches {
+        time = then_modified(time, patch);
+    }
+    time
+}
+
+/// Returns the time that the change sets, or else the time so far.
+fn then_modified(time: Option<u64>, patch: &PropertyPatch) -> Option<u64>
+    ensures { result ≡ then_modified time patch.now }
+{
+    match patch {
+        PropertyPatch::Modified(secs) => Some(*secs),
+        _ => time,
+    }
+}
+
+/// Returns when the resource was created, if some change sets that, as the last one of them says.
+fn set_created(patches: &[PropertyPatch]) -> Option<u64>
+    ensures { result ≡ set_created patches.now }
+{
+    let mut time = None;
+    for patch in patches {
+        time = then_created(time, patch);
+    }
+    time
+}
+
+/// Returns the time that the change sets, or else the time so far.
+fn then_created(time: Option<u64>, patch: &PropertyPatch) -> Option<u64>
+    ensures { result ≡ then_created time patch.now }
+{
+    match patch {
+        PropertyPatch::Created(secs) => Some(*secs),
+        _ => time,
     }
 }
 

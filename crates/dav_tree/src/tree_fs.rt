@@ -28,7 +28,7 @@ use crate::medium::Medium;
 use dav_nodes::{Changes, PlacedValue};
 use dav_resource::{
     BodyNumber, DavFile, DavPath, DavProp, DirEntry, Element, FsError, FsResult, Items, Meta, Op,
-    OpenOptions, Record,
+    OpenOptions, PropertyPatch, Record,
 };
 use dav_store::GuardedFileSystem;
 use http::StatusCode;
@@ -493,7 +493,7 @@ impl<C, M: Medium> GuardedFileSystem<C> for TreeFs<M> {
     fn patch_props(
         &mut self,
         path: &DavPath,
-        patches: &[(bool, DavProp)],
+        patches: &[PropertyPatch],
         _credentials: &C,
     ) -> FsResult<Vec<StatusCode>>
         requires some { patches.now ≢ [] }

@@ -3,7 +3,7 @@ ghost use Rattle.std.specs.Prelude.{◌≡◌, All, IfOk};
 ghost use Rattle.dav_store.specs.PropertyCalls.{IsWhole, name_of};
 ghost use Rattle.dav_store.specs.Store.{element_key};
 
-use dav_resource::{DavProp, Element, SharedElement, Text, XMLNode};
+use dav_resource::{DavProp, Element, PropertyPatch, SharedElement, Text, XMLNode};
 use dav_script::{Fault, LineError};
 use std::alloc::{AllocError, Global};
 
@@ -57,7 +57,7 @@ fn element_of(node: XMLNode) -> Result<Element, LineError> {
 }
 
 /// Converts the changes to the form that the store accepts.
-pub fn patches_of(alloc: Global, changes: Vec<Change>) -> Result<Vec<(bool, DavProp)>, AllocError>
+pub fn patches_of(alloc: Global, changes: Vec<Change>) -> Result<Vec<PropertyPatch>, AllocError>
     ensures { IfOk result (λ patches. All IsWhole patches.items) }
 {
     let mut patches = Vec::new(alloc);
@@ -69,16 +69,16 @@ pub fn patches_of(alloc: Global, changes: Vec<Change>) -> Result<Vec<(bool, DavP
 
 impl Change {
     /// Converts the change to the form that the store accepts.
-    fn into_patch(self, alloc: Global) -> Result<(bool, DavProp), AllocError>
+    fn into_patch(self, alloc: Global) -> Result<PropertyPatch, AllocError>
         ensures { IfOk result IsWhole }
     {
         match self {
             Change::Set(element) => {
                 let mut property = property_of(alloc, &element)?;
                 property.element = Some(SharedElement::new(alloc, element)?);
-                Ok((true, property))
+                Ok(PropertyPatch::Set(property))
             }
-            Change::Remove(element) => Ok((false, property_of(alloc, &element)?)),
+            Change::Remove(element) => Ok(PropertyPatch::Remove(property_of(alloc, &element)?)),
         }
     }
 }

@@ -75,30 +75,110 @@ impl StoreCall {
         output: &mut O,
     ) -> Result<(), Stopped> {
         match self {
-            StoreCall::Metadata(path) => print_meta(alloc, output, store.metadata(&path, &())),
-            StoreCall::ReadDir(path) => print_listing(alloc, output, store.read_dir(&path, &())),
+            StoreCall::Metadata(path) => metadata(alloc, store, &path, output),
+            StoreCall::ReadDir(path) => read_dir(alloc, store, &path, output),
             StoreCall::ReadBytes(path, place, count) => {
-                print_bytes(alloc, output, store.read_bytes(&path, place, count, &()))
+                read_bytes(alloc, store, &path, place, count, output)
             }
-            StoreCall::CreateDir(path) => print_done(output, store.create_dir(&path, &())),
-            StoreCall::RemoveFile(path) => print_done(output, store.remove_file(&path, &())),
-            StoreCall::RemoveDir(path) => print_done(output, store.remove_dir(&path, &())),
-            StoreCall::Copy(from, to) => print_done(output, store.copy(&from, &to, &())),
-            StoreCall::Rename(from, to) => print_done(output, store.rename(&from, &to, &())),
+            StoreCall::CreateDir(path) => create_dir(store, &path, output),
+            StoreCall::RemoveFile(path) => remove_file(store, &path, output),
+            StoreCall::RemoveDir(path) => remove_dir(store, &path, output),
+            StoreCall::Copy(from, to) => copy(store, &from, &to, output),
+            StoreCall::Rename(from, to) => rename(store, &from, &to, output),
             StoreCall::Open(path, options) => {
                 print_done(output, open(store, &path, &options, file))
             }
-            StoreCall::GetProp(path, property) => {
-                print_element(alloc, output, store.get_prop(&path, &property, &()))
-            }
-            StoreCall::GetProps(path) => {
-                print_properties(alloc, output, store.get_props(&path, &()))
-            }
+            StoreCall::GetProp(path, property) => get_prop(alloc, store, &path, &property, output),
+            StoreCall::GetProps(path) => get_props(alloc, store, &path, output),
             StoreCall::PatchProps(path, changes) => patch(alloc, store, &path, changes, output),
-            StoreCall::GetQuota => print_quota(output, store.get_quota(&())),
+            StoreCall::GetQuota => get_quota(store, output),
             StoreCall::HaveProps => print_word(output, GuardedFileSystem::<()>::have_props(store)),
         }
     }
+}
+
+// Each call of the store has a function of its own, in which the prover has the contract of this call alone in view.
+
+fn metadata<O: Write>(
+    alloc: Global,
+    store: &mut Store,
+    path: &DavPath,
+    output: &mut O,
+) -> Result<(), Stopped> {
+    print_meta(alloc, output, store.metadata(path, &()))
+}
+
+fn read_dir<O: Write>(
+    alloc: Global,
+    store: &mut Store,
+    path: &DavPath,
+    output: &mut O,
+) -> Result<(), Stopped> {
+    print_listing(alloc, output, store.read_dir(path, &()))
+}
+
+fn read_bytes<O: Write>(
+    alloc: Global,
+    store: &mut Store,
+    path: &DavPath,
+    place: u64,
+    count: usize,
+    output: &mut O,
+) -> Result<(), Stopped> {
+    print_bytes(alloc, output, store.read_bytes(path, place, count, &()))
+}
+
+fn create_dir<O: Write>(store: &mut Store, path: &DavPath, output: &mut O) -> Result<(), Stopped> {
+    print_done(output, store.create_dir(path, &()))
+}
+
+fn remove_file<O: Write>(store: &mut Store, path: &DavPath, output: &mut O) -> Result<(), Stopped> {
+    print_done(output, store.remove_file(path, &()))
+}
+
+fn remove_dir<O: Write>(store: &mut Store, path: &DavPath, output: &mut O) -> Result<(), Stopped> {
+    print_done(output, store.remove_dir(path, &()))
+}
+
+fn copy<O: Write>(
+    store: &mut Store,
+    from: &DavPath,
+    to: &DavPath,
+    output: &mut O,
+) -> Result<(), Stopped> {
+    print_done(output, store.copy(from, to, &()))
+}
+
+fn rename<O: Write>(
+    store: &mut Store,
+    from: &DavPath,
+    to: &DavPath,
+    output: &mut O,
+) -> Result<(), Stopped> {
+    print_done(output, store.rename(from, to, &()))
+}
+
+fn get_prop<O: Write>(
+    alloc: Global,
+    store: &mut Store,
+    path: &DavPath,
+    property: &DavProp,
+    output: &mut O,
+) -> Result<(), Stopped> {
+    print_element(alloc, output, store.get_prop(path, property, &()))
+}
+
+fn get_props<O: Write>(
+    alloc: Global,
+    store: &mut Store,
+    path: &DavPath,
+    output: &mut O,
+) -> Result<(), Stopped> {
+    print_properties(alloc, output, store.get_props(path, &()))
+}
+
+fn get_quota<O: Write>(store: &mut Store, output: &mut O) -> Result<(), Stopped> {
+    print_quota(output, store.get_quota(&()))
 }
 
 /// Reads `FROM TO`.

@@ -10,7 +10,7 @@ use crate::LoadError;
 use dav_cells::{decode_element, decode_pieces};
 use dav_nodes::NumberedValue;
 use dav_pieces::{Body, Piece};
-use dav_resource::{DavProp, Element, SharedElement, Text};
+use dav_resource::{DavProp, Element, PropertyPatch, SharedElement, Text};
 use dav_rows::{ExtentRow, PropertyRow, ResourceRow};
 use dav_tree::{Content, Entry, Properties};
 use std::alloc::{AllocError, Global};
@@ -61,7 +61,7 @@ fn decode_properties(
             return Err(LoadError::Damaged);
         }
         let prop = property_of(alloc, decode_element(alloc, &row.element)?)?;
-        properties.patch(&[(true, prop)])?;
+        properties.patch(&[PropertyPatch::Set(prop)])?;
     }
     Ok(properties)
 }

@@ -2,12 +2,12 @@
 ghost use Rattle.std.specs.Prelude.{◌≡◌, Some, None, IfOk, OnOk, OnErr, true, false};
 ghost use Rattle.std.specs.FinMap as map;
 ghost use Rattle.dav_key.specs.Below.{put_at};
-ghost use Rattle.dav_store.specs.PropertyCalls.{patched};
+ghost use Rattle.dav_store.specs.PropertyCalls.{name_of, patched};
 ghost use Rattle.dav_tree.specs.PropertyNames.{key_of};
-ghost use Rattle.dav_tree.specs.Patching.{wanted, changes_of, AreOthers, ArePut, AreChanged, IsPlan, replaced_by};
+ghost use Rattle.dav_tree.specs.Patching.{changes_of, AreOthers, ArePut, AreChanged, IsPlan, PlansMore, replaced_by};
 
 use super::{Properties, PropertyName};
-use dav_resource::{DavProp, SharedElement};
+use dav_resource::{DavProp, PropertyPatch, SharedElement};
 use std::alloc::AllocError;
 use std::collections::BTreeMap;
 
@@ -20,11 +20,11 @@ struct Plan {
 }
 
 impl Properties {
-    /// Sets (`true`) or removes (`false`) properties, in order. A property that is set gets the element that
-    /// the change has, and is removed if the change has none. Fails only if memory runs out, and then nothing
-    /// changes. Each change makes a few lookups among the properties and among the changes, and at most two
-    /// copies of its name. Properties that are not changed cost nothing.
-    pub fn patch(&mut self, patches: &[(bool, DavProp)]) -> Result<(), AllocError>
+    /// Sets and removes properties, in order. A property that is set gets the element that the change has, and is
+    /// removed if the change has none. Fails only if memory runs out, and then nothing changes. Each change makes a
+    /// few lookups among the properties and among the changes, and at most two copies of its name. Properties that
+    /// are not changed cost nothing.
+    pub fn patch(&mut self, patches: &[PropertyPatch]) -> Result<(), AllocError>
         ensures ok { OnOk result (self.new ≡ patched patches.now self.old) }
         ensures err { OnErr result (self.new ≡ self.old) }
     {
@@ -35,23 +35,38 @@ impl Properties {
     }
 
     /// Returns the combined effect of these changes. Fails only if memory runs out.
-    fn plan(&self, patches: &[(bool, DavProp)]) -> Result<Plan, AllocError>
+    fn plan(&self, patches: &[PropertyPatch]) -> Result<Plan, AllocError>
         ensures { IfOk result (λ plan. IsPlan self.now plan.added (changes_of plan.changed) (patched patches.now self.now)) }
     {
         let mut plan = Plan {
             added: Properties::new(self.alloc),
             changed: BTreeMap::new(self.alloc),
         };
-        for (set, prop) in patches {
-            let name = PropertyName::of(self.alloc, prop)?;
-            let element = wanted(*set, prop)?;
-            if self.has(&name) {
-                plan.change(name, element)?;
-            } else {
-                plan.add(name, element)?;
+        for patch in patches {
+            match patch {
+                PropertyPatch::Set(prop) => self.note(&mut plan, prop, wanted(prop)?)?,
+                PropertyPatch::Remove(prop) => self.note(&mut plan, prop, None)?,
+                PropertyPatch::Modified(_) | PropertyPatch::Created(_) => {}
             }
         }
         Ok(plan)
+    }
+
+    /// Notes in the plan that a property gets this element, or that it is removed. Fails only if memory runs out.
+    fn note(
+        &self,
+        plan: &mut Plan,
+        prop: &DavProp,
+        element: Option<SharedElement>,
+    ) -> Result<(), AllocError>
+        ensures { OnOk result (PlansMore self.now plan.old plan.new (name_of prop.now) element) }
+    {
+        let name = PropertyName::of(self.alloc, prop)?;
+        if self.has(&name) {
+            plan.change(name, element)
+        } else {
+            plan.add(name, element)
+        }
     }
 
     /// Adds copies of these properties to others, which have none of these names. Fails only if memory runs
@@ -118,12 +133,12 @@ impl Plan {
     }
 }
 
-/// Returns the element that a change gives its property, if any. Fails only if memory runs out.
-fn wanted(set: bool, prop: &DavProp) -> Result<Option<SharedElement>, AllocError>
-    ensures { IfOk result (λ element. element ≡ wanted (set, prop.now)) }
+/// Returns the element of a property, if it has one. Fails only if memory runs out.
+fn wanted(prop: &DavProp) -> Result<Option<SharedElement>, AllocError>
+    ensures { IfOk result (λ element. element ≡ prop.now.element) }
 {
     match &prop.element {
-        Some(element) if set => Ok(Some(element.clone()?)),
-        _ => Ok(None),
+        Some(element) => Ok(Some(element.clone()?)),
+        None => Ok(None),
     }
 }

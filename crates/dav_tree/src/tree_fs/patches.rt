@@ -8,7 +8,7 @@ ghost use Rattle.dav_store.specs.PropertyCalls.{IsWhole, name_of, properties_at}
 
 use super::TreeFs;
 use crate::medium::Medium;
-use dav_resource::{DavPath, DavProp, Element, FsError, FsResult};
+use dav_resource::{DavPath, DavProp, Element, FsError, FsResult, PropertyPatch};
 use http::StatusCode;
 use std::alloc::{AllocError, Global};
 
@@ -42,12 +42,12 @@ impl<M: Medium> TreeFs<M> {
         Ok(properties.list(*self.log.allocator())?)
     }
 
-    /// Sets and removes properties, in order. Returns `NotFound` if nothing exists at the path, and `Memory`
+    /// Sets and removes properties, and sets times, in order. Returns `NotFound` if nothing exists at the path, and `Memory`
     /// if memory runs out. After an error nothing has changed. Costs what `Properties::patch` costs.
     pub(super) fn patch(
         &mut self,
         path: &DavPath,
-        patches: &[(bool, DavProp)],
+        patches: &[PropertyPatch],
     ) -> FsResult<Vec<StatusCode>>
         requires { All IsWhole patches.now }
         ensures log { self.new.log ≡ self.old.log }

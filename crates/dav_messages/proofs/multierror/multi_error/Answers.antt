@@ -8,16 +8,16 @@ pub returns-in-len1 : goal.returns-in-len1
 returns-in-len1 c =
     let path = c.args.req_path.now in
     let items = c.as_slice-listed.result.now in
-    let one = multi_answer-one path items c.index-listed-0.result c.index-listed-0-then-listed-lt2.result c.same_key.result c.in-len1.len_at_least c.in-len1.len_below c.same_key.ensures in
+    let one = multi_answer-one c.args.profile path items c.index-listed-0.result c.index-listed-0-then-listed-lt2.result c.same_key.result c.in-len1.len_at_least c.in-len1.len_below c.same_key.ensures in
     rw (← c.as_slice-listed.ensures.value, c.bare_reply.ensures, one, c.if-same_key.true) refl
 
 pub returns : goal.returns
 returns c =
     let path = c.args.req_path.now in
     let items = c.as_slice-listed.result.now in
-    let gives = gives-reply c.multistatus_reply.result (multistatus_reply items) c.multistatus_reply.ensures.ok c.multistatus_reply.ensures.err in
+    let gives = gives-reply c.multistatus_reply.result (multistatus_reply c.args.profile items) c.multistatus_reply.ensures.ok c.multistatus_reply.ensures.err in
     rw (← c.as_slice-listed.ensures.value) (elim c.in_default.branch [
       | in_default-via-in-len1+else-same_key w ↦
-          gives _ (rw w.if-same_key.false at (multi_answer-one path items w.index-listed-0.result w.index-listed-0.result w.same_key.result w.in-len1.len_at_least w.in-len1.len_below w.same_key.ensures))
-      | in_default-via-else-listed-lt2 w ↦ gives _ (multi_answer-several path items (search rules))
+          gives _ (rw w.if-same_key.false at (multi_answer-one c.args.profile path items w.index-listed-0.result w.index-listed-0.result w.same_key.result w.in-len1.len_at_least w.in-len1.len_below w.same_key.ensures))
+      | in_default-via-else-listed-lt2 w ↦ gives _ (multi_answer-several c.args.profile path items (search rules))
     ])

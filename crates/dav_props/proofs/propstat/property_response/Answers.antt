@@ -14,8 +14,8 @@ unwrap-status-requires c =
 pub loop-status-preserved : goal.loop-status-preserved
 loop-status-preserved c =
     let status : c.unwrap-status.result ≡ c.in-Some.status = value_so _ _ _ _ c.from_u16.ensures c.unwrap-status.ensures in
-    let sofar = property_response c.args.path.now (seen_groups c.loop-status.yielded) in
+    let sofar = property_response c.args.profile c.args.path.now (seen_groups c.loop-status.yielded) in
     c.in_ok-push_element-2.ensures.ok
     ∙ (λ i. with_children (c.loop-status.invariant i) (one_element (c.in_ok-propstat.ensures i)))
     ∙ ap (λ s. with_children sofar (one_element (propstat (s, c.in-Some.elements.items)))) status
-    ∙ responded c.args.path.now c.loop-status.yielded (c.in-Some.status, c.in-Some.elements)
+    ∙ responded c.args.profile c.args.path.now c.loop-status.yielded (c.in-Some.status, c.in-Some.elements)

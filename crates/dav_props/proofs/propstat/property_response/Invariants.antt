@@ -5,4 +5,4 @@ use Rattle.dav_props.proofs.propstat.property_response.Given as goal
 
 -- the groups so far
 abbrev pub invariant-loop-status : goal.invariant-loop-status
-invariant-loop-status l = l.response ≡ property_response l.path (seen_groups l.yielded)
+invariant-loop-status l = l.response ≡ property_response l.fn.profile l.path (seen_groups l.yielded)

@@ -6,4 +6,4 @@ use Rattle.dav_props.proofs.update.read_parts.Given as goal
 
 -- the changes that the parts so far ask for
 abbrev pub invariant-loop-part : goal.invariant-loop-part
-invariant-loop-part l = map change_of l.changes.items ≡ flat_map (changes_in l.can_deadprop) (map (λ (b : Bor Tree). b.now) l.yielded)
+invariant-loop-part l = map change_of l.changes.items ≡ flat_map (changes_in l.profile l.can_deadprop) (map (λ (b : Bor Tree). b.now) l.yielded)

@@ -6,4 +6,4 @@ use Rattle.dav_props.proofs.update.read_prop.Given as goal
 -- the changes of the elements so far
 abbrev pub invariant-loop-element : goal.invariant-loop-element
 invariant-loop-element l =
-    map change_of l.changes.items ≡ map change_of l.fn.changes.items ++ map (judged l.can_deadprop l.set) (map (λ (b : Bor Tree). b.now) l.yielded)
+    map change_of l.changes.items ≡ map change_of l.fn.changes.items ++ map (judged l.profile l.can_deadprop l.set) (map (λ (b : Bor Tree). b.now) l.yielded)

@@ -8,4 +8,4 @@ use Rattle.dav_props.proofs.update.read_properties.Given as goal
 abbrev pub invariant-loop-prop : goal.invariant-loop-prop
 invariant-loop-prop l =
     map change_of l.changes.items
-    ≡ map change_of l.fn.changes.items ++ map (judged l.can_deadprop l.set) (flat_map properties_of (map (λ (b : Bor Tree). b.now) l.yielded))
+    ≡ map change_of l.fn.changes.items ++ map (judged l.profile l.can_deadprop l.set) (flat_map properties_of (map (λ (b : Bor Tree). b.now) l.yielded))

@@ -1,3 +1,4 @@
+use Rattle.std.proofs.Common.{ap}
 use Rattle.dav_engine.specs.DavInner.{lent, seen_by, settings_by}
 use Rattle.dav_engine.specs.Methods.{move_method}
 use Rattle.dav_engine.specs.State.{state_of}
@@ -20,4 +21,4 @@ move_found-requires g c =
 pub returns-clause-step : goal.returns-clause-step
 returns-clause-step g c =
     let judged = c.in_ok-found.ensures in
-    serves_work move_method move_sound (settings_by g.F.GuardedFileSystem.seen c.args.self.now) c.args.request.now _ c.in_ok-found.found _ _ _ _ (lawful g.F.GuardedFileSystem.seen g.L.DavLockSystem.seen g.met.F.GuardedFileSystem.well_formed g.met.L.DavLockSystem.distinct c.args.self.now) judged.rules (rw judged.same_locks at c.move_found.ensures.work)
+    serves_work move_method move_sound (settings_by g.F.GuardedFileSystem.seen c.args.self.now) c.args.request.now _ c.in_ok-found.found _ _ _ _ (lawful g.F.GuardedFileSystem.seen g.L.DavLockSystem.seen g.met.F.GuardedFileSystem.well_formed g.met.L.DavLockSystem.distinct c.args.self.now) judged.rules (rw (ap (λ f. f.1.3) judged.same_engine, judged.same_locks) at c.move_found.ensures.work)

@@ -8,4 +8,4 @@ use Rattle.dav_engine.proofs.inner.DavInner.patch_found.Goals as goal
 pub returns-in_err-statuses-clause-work : goal.returns-in_err-statuses-clause-work
 returns-in_err-statuses-clause-work g c =
     let p = err_from_is_err_and c.from_residual.result c.from_residual.ensures.1 in
-    patch_unmade c.args.request.now (c.args.found.now, map change_of c.args.changes.now) _ _ _ _ (ap answer_of p.1 ∙ ap Err p.2) c.in_err-statuses.ensures.stored
+    patch_unmade c.args.self.now.profile c.args.request.now (c.args.found.now, map change_of c.args.changes.now) _ _ _ _ (ap answer_of p.1 ∙ ap Err p.2) c.in_err-statuses.ensures.stored

@@ -11,4 +11,4 @@ pub returns-clause-ok : goal.returns-clause-ok
 returns-clause-ok g c =
     let groups = c.in_ok-groups.ensures.groups ∙ ap grouped c.into_vec.ensures in
     shown_one _ _ c.args.depth c.args.here.now c.args.quota c.args.writer.tree _ _ _ (c.in_ok-reported.reported, c.in_ok-reported.quota) (sym c.if-not-is_shown.ensures) c.in_ok-reported.ensures.response
-    (c.in_ok-write_propresponse.ensures.written ∙ ap (λ gs. with_elements c.args.writer.tree (property_response c.args.here.now.path gs ∷ [])) groups)
+    (c.in_ok-write_propresponse.ensures.written ∙ ap (λ gs. with_elements c.args.writer.tree (property_response c.args.self.now.profile c.args.here.now.path gs ∷ [])) groups)

@@ -1,6 +1,6 @@
 use Rattle.std.proofs.Common.{ap, Some, None, true}
-use Rattle.dav_store.specs.PropertyCalls.{properties_bar, patched}
-use Rattle.dav_tree.specs.Memory.{change_at, with_properties}
+use Rattle.dav_store.specs.PropertyCalls.{properties_bar}
+use Rattle.dav_tree.specs.Memory.{change_at, patched_by}
 use Rattle.dav_tree.proofs.Sound.{sound-patched}
 use Rattle.dav_tree.proofs.Rows.{node_at}
 use Rattle.dav_tree.proofs.Places.{number-again, at-key, missing-key, found-key}
@@ -20,7 +20,7 @@ invariant_of-self-2 g c =
     let key = c.args.path.now.key in
     let at = at-key c.args.self.now.entries c.find.new.self c.find.ensures.same key _ c.key.ensures.value _ _ c.in-Some.ensures.found.at in
     record {
-      sound = sound-either-way c.args.self.now.entries c.find.new.self c.patch.new.self c.find.ensures.same c.args.self.now.sound (change_at key (λ s. with_properties (patched c.args.patches.now s.properties) s))
+      sound = sound-either-way c.args.self.now.entries c.find.new.self c.patch.new.self c.find.ensures.same c.args.self.now.sound (change_at key (patched_by c.args.patches.now))
           (λ new is. sound-patched c.args.self.now.entries.resources new key c.args.patches.now c.args.self.now.sound is c.requires)
           c.patch.result (c.patch.ensures.ok key at.numbered) c.patch.ensures.err;
     }
@@ -31,4 +31,4 @@ returns-clause-patched g c =
     let here = found-key _ _ c.find.ensures.same key _ c.key.ensures.value _ _ c.in-Some.ensures.found in
     let at = at-key c.args.self.now.entries c.find.new.self c.find.ensures.same key _ c.key.ensures.value _ _ c.in-Some.ensures.found.at in
     over-ok _ _ _ _ _ _ (ap (properties_bar true) (node_at c.args.self.now.entries.resources key (Some c.in-Some.ensures.found.stored) here))
-    (memory-changed _ _ _ _ _ c.args.self.now.entries c.find.new.self c.patch.new.self (change_at key (λ s. with_properties (patched c.args.patches.now s.properties) s)) c.find.ensures.same (c.in_ok-patch.ensures.ok key at.numbered))
+    (memory-changed _ _ _ _ _ c.args.self.now.entries c.find.new.self c.patch.new.self (change_at key (patched_by c.args.patches.now)) c.find.ensures.same (c.in_ok-patch.ensures.ok key at.numbered))
