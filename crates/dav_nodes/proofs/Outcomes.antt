@@ -184,3 +184,12 @@ module _ {R : Type 0} (old new : ℕ → Option (Node R)) (tree after : Tree R) 
       number_stays q n
       (λ was. ap (λ m. get m q) is.numbers ∙ remove-elsewhere tree.numbers key q (λ e. apart (some_apart n number (sym was ∙ ap (get tree.numbers) e ∙ at))) ∙ was)
       there
+
+  pub removed_at : (key : Key) (name : List ℕ) (number above : ℕ) → key ≡ parent key ++ name ∷ [] → get tree.numbers (parent key) ≡ Some above → get tree.numbers key ≡ Some number
+      → IsRemoved key tree after → IsKnownAt (place (member_at new)) key above None
+  removed_at key name number above last at there is = record {
+    parent_at =
+        removed_keeps key number there is (parent key) above (parent_apart old old tree linked key name above number last at there)
+        (sym (linked.numbered (parent key)) ∙ at);
+    own = λ n e. absurd cc;
+  }

@@ -6,12 +6,13 @@ use Rattle.std.specs.BTreeMap.{get_by_text}
 use Rattle.std.specs.FinMap.{get}
 use Rattle.std.proofs.lemmas.Bool.{cases_eq}
 use Rattle.dav_key.specs.Key.{Key, parent}
+use Rattle.dav_key.proofs.FlatLemmas.{key_cases}
 use Rattle.dav_nodes.specs.Tree.{Tree}
 use Rattle.dav_nodes.specs.Rows.{Row, row_of, HasRow}
-use Rattle.dav_nodes.specs.Links.{AreLinked, AreSpots, value_at, member_at, spot_at}
+use Rattle.dav_nodes.specs.Links.{AreLinked, AreSpots, place, value_at, member_at, spot_at}
 use Rattle.dav_nodes.specs.NodeChanges.{AddsNode, SetsValue, RemovesNode, MovesNode, SameNodes}
 use Rattle.dav_nodes.specs.declared.node.Node.{Node}
-use Rattle.dav_nodes.proofs.Walks.{are_numbered}
+use Rattle.dav_nodes.proofs.Walks.{are_numbered, walk-push}
 use Rattle.dav_nodes.proofs.KeyMaps.{name_same_or_not}
 use Rattle.dav_nodes.proofs.BelowKeys.{split_or_none}
 use Rattle.dav_nodes.proofs.Linking.{not_root, not_none, some_apart}
@@ -40,6 +41,20 @@ same_spot : (p q : ℕ × List ℕ) → Some p ≡ Some q → (p.0 ≡ q.0) × (
 same_spot p q e =
     let same = ap (λ o. unwrap_or o p) e in
     (ap (λ (r : ℕ × List ℕ). r.0) same, ap (λ (r : ℕ × List ℕ). r.1) same)
+
+-- the node of a key has the number of the key's parent
+pub spot_above : (member : List ℕ → ℕ → Option ℕ) (spot : ℕ → Option (ℕ × List ℕ)) → AreSpots member spot → (key : Key) (number : ℕ) → place member key ≡ Some number
+    → option_map (λ (s : ℕ × List ℕ). s.0) (spot number) ≡ place member (parent key)
+spot_above member spot spots key number at = elim (key_cases key) [
+  | inl root ↦
+      ap (λ n. option_map (λ (s : ℕ × List ℕ). s.0) (spot n)) (some_apart number 0 (sym at ∙ ap (place member) root))
+      ∙ ap (option_map (λ (s : ℕ × List ℕ). s.0)) spots.root ∙ sym (ap (λ k. place member (parent k)) root)
+  | inr last ↦ by last.0 (place member (parent key)) (sym (ap (place member) last.1 ∙ walk-push member (Some 0) (parent key) last.0) ∙ at)
+]
+  where
+    by : (name : List ℕ) (o : Option ℕ) → option_and_then (member name) o ≡ Some number → option_map (λ (s : ℕ × List ℕ). s.0) (spot number) ≡ o
+    by name None step = absurd cc
+    by name (Some above) step = ap (option_map (λ (s : ℕ × List ℕ). s.0)) (spots.below name above number step)
 
 -- ---- after a change
 

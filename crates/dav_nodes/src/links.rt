@@ -1,7 +1,8 @@
 //! Changes of the nodes of a tree, which refer to their members by number.
-ghost use Rattle.std.specs.Prelude.{◌≡◌, ◌≢◌, IsSome, IfOk, OnOk, OnErr, Some, None, string_bytes};
+ghost use Rattle.std.specs.Prelude.{◌≡◌, ◌≢◌, ℕ, List, IsSome, IfOk, OnOk, OnErr, Some, None, string_bytes};
 ghost use Rattle.slab.specs.Slab.{get};
-ghost use Rattle.dav_nodes.specs.Links.{place, value_at, member_at};
+ghost use Rattle.std.specs.Option.{option_map};
+ghost use Rattle.dav_nodes.specs.Links.{place, value_at, member_at, spot_at};
 ghost use Rattle.dav_nodes.specs.NodeChanges.{AddsNode, SetsValue, RemovesNode, MovesNode, SetsMember, SetsSpot, SameNodes};
 
 use crate::node::Node;
@@ -26,6 +27,13 @@ pub(crate) fn member<R>(nodes: &Slab<Node<R>>, above: usize, name: &str) -> Opti
     ensures { result ≡ member_at (get nodes.now) name.now above }
 {
     nodes.get(above)?.members.get(name).copied()
+}
+
+/// Returns the number of the parent of a node.
+pub(crate) fn parent_of<R>(nodes: &Slab<Node<R>>, number: usize) -> Option<usize>
+    ensures { result ≡ option_map (λ (spot : ℕ × List ℕ). spot.0) (spot_at (get nodes.now) number) }
+{
+    Some(nodes.get(number)?.above)
 }
 
 /// Exchanges the value of a node with another one.

@@ -145,7 +145,7 @@ impl<R> Nodes<R> {
     }
 
     /// Removes the value at a key, which has one, and returns it. The key must not be the root, and no key
-    /// below it may have a value.
+    /// below it may have a value. Its parent stays known, so a removal of that one does not begin at the root.
     pub fn remove(&mut self, key: &FlatKey) -> Option<R>
     where
         R: Drop,
@@ -165,7 +165,9 @@ impl<R> Nodes<R> {
             unreachable!()
         };
         self.memo.forget(number);
-        links::remove(&mut self.nodes, above, name, number)
+        let value = links::remove(&mut self.nodes, above, name, number);
+        self.memo.note_at(key, above, None);
+        value
     }
 
     /// Moves the value at a key, and the values of all keys below it, to another key, which has none, and

@@ -5,7 +5,7 @@ use Rattle.slab.specs.Slab as slab
 use Rattle.dav_key.specs.Key.{parent}
 use Rattle.dav_nodes.specs.Tree.{IsRemoved}
 use Rattle.dav_nodes.specs.Links.{value_at, place, member_at}
-use Rattle.dav_nodes.proofs.Outcomes.{linked_now, of_held, member_number, no_orphan, no_number, removed, parent_apart, removed_keeps}
+use Rattle.dav_nodes.proofs.Outcomes.{linked_now, of_held, member_number, no_orphan, no_number, removed, parent_apart, removed_keeps, removed_at}
 use Rattle.dav_nodes.proofs.Spots.{spots_removed, not_zero}
 use Rattle.dav_nodes.proofs.nodes.Nodes.remove.Goals as goal
 
@@ -43,8 +43,11 @@ invariant_of-self-inside g c =
     c.requires.childless c.remove.ensures.nodes in (
       (done.0, done.1),
       (
-        c.forget.ensures (place (member_at old)) (place (member_at new)) c.self.inside.known
-            (removed_keeps old new c.args.self.now done.0 linked done.1 c.args.key.now c.in-Some-member.number there done.2),
+        c.note_at.ensures (place (member_at new))
+            (c.forget.ensures (place (member_at old)) (place (member_at new)) c.self.inside.known
+            (removed_keeps old new c.args.self.now done.0 linked done.1 c.args.key.now c.in-Some-member.number there done.2))
+            (removed_at old new c.args.self.now done.0 linked done.1 c.args.key.now c.in-Some.name.now c.in-Some-member.number c.in-Some-find_above.above
+            c.in-Some.ensures.last at there done.2),
         (
           spots_removed old new c.self.inside.spots c.in-Some-find_above.above c.in-Some.name.now c.in-Some-member.number
               (not_zero old c.args.self.now linked c.args.key.now c.in-Some-member.number c.requires.root there) (sym c.member.ensures ∙ c.in-Some-member.is) c.remove.ensures.nodes,
