@@ -23,8 +23,8 @@ unreachable-requires-in_default-member g c =
     no_number (get c.args.self.now.numbers c.args.key.now) c.requires.there
     (member_number old c.args.self.now linked c.args.key.now c.in-Some.name.now c.in-Some-find_above.above c.in-Some.ensures.last at ∙ sym c.member.ensures ∙ c.in_default-member.is)
 
-pub remove-requires : goal.remove-requires
-remove-requires g c =
+pub remove-value-requires : goal.remove-value-requires
+remove-value-requires g c =
     let old = slab.get c.self.inside.nodes in
     let linked = linked_now old c.args.self.now c.self.inside.tree c.self.view_is in
     let at = linked.numbered (parent c.args.key.now) ∙ sym c.find_above.ensures ∙ c.in-Some-find_above.is in
@@ -35,12 +35,12 @@ pub invariant_of-self-inside : goal.invariant_of-self-inside
 invariant_of-self-inside g c =
     let old = slab.get c.self.inside.nodes in
     let linked = linked_now old c.args.self.now c.self.inside.tree c.self.view_is in
-    let new = slab.get c.remove.new.nodes in
+    let new = slab.get c.remove-value.new.nodes in
     let at = linked.numbered (parent c.args.key.now) ∙ sym c.find_above.ensures ∙ c.in-Some-find_above.is in
     let there = member_number old c.args.self.now linked c.args.key.now c.in-Some.name.now c.in-Some-find_above.above c.in-Some.ensures.last at ∙ sym c.member.ensures ∙ c.in-Some-member.is in
     let done =
     removed old new c.args.self.now linked c.args.key.now c.in-Some.name.now c.in-Some-find_above.above c.in-Some-member.number c.in-Some.ensures.last at there
-    c.requires.childless c.remove.ensures.nodes in (
+    c.requires.childless c.remove-value.ensures.nodes in (
       (done.0, done.1),
       (
         c.note_at.ensures (place (member_at new))
@@ -50,7 +50,7 @@ invariant_of-self-inside g c =
             c.in-Some.ensures.last at there done.2),
         (
           spots_removed old new c.self.inside.spots c.in-Some-find_above.above c.in-Some.name.now c.in-Some-member.number
-              (not_zero old c.args.self.now linked c.args.key.now c.in-Some-member.number c.requires.root there) (sym c.member.ensures ∙ c.in-Some-member.is) c.remove.ensures.nodes,
+              (not_zero old c.args.self.now linked c.args.key.now c.in-Some-member.number c.requires.root there) (sym c.member.ensures ∙ c.in-Some-member.is) c.remove-value.ensures.nodes,
           tt,
         ),
       ),
@@ -62,16 +62,16 @@ returns-clause-value g c =
     let linked = linked_now old c.args.self.now c.self.inside.tree c.self.view_is in
     let at = linked.numbered (parent c.args.key.now) ∙ sym c.find_above.ensures ∙ c.in-Some-find_above.is in
     let there = member_number old c.args.self.now linked c.args.key.now c.in-Some.name.now c.in-Some-find_above.above c.in-Some.ensures.last at ∙ sym c.member.ensures ∙ c.in-Some-member.is in
-    c.remove.ensures.value ∙ sym (linked.valued c.args.key.now ∙ ap (option_and_then (value_at old)) there)
+    c.remove-value.ensures.value ∙ sym (linked.valued c.args.key.now ∙ ap (option_and_then (value_at old)) there)
 
 pub returns-clause-removed : goal.returns-clause-removed
 returns-clause-removed g c =
     let old = slab.get c.self.inside.nodes in
     let linked = linked_now old c.args.self.now c.self.inside.tree c.self.view_is in
-    let new = slab.get c.remove.new.nodes in
+    let new = slab.get c.remove-value.new.nodes in
     let at = linked.numbered (parent c.args.key.now) ∙ sym c.find_above.ensures ∙ c.in-Some-find_above.is in
     let there = member_number old c.args.self.now linked c.args.key.now c.in-Some.name.now c.in-Some-find_above.above c.in-Some.ensures.last at ∙ sym c.member.ensures ∙ c.in-Some-member.is in
     let done =
     removed old new c.args.self.now linked c.args.key.now c.in-Some.name.now c.in-Some-find_above.above c.in-Some-member.number c.in-Some.ensures.last at there
-    c.requires.childless c.remove.ensures.nodes in
+    c.requires.childless c.remove-value.ensures.nodes in
     of_held g.row.R.coded new done.0 (IsRemoved c.args.key.now c.args.self.now) done.1 done.2 c.self-1.given.0
