@@ -172,6 +172,9 @@ func (h *Handler) serve(w http.ResponseWriter, r *http.Request) error {
 	if err := h.checkDestination(r); err != nil {
 		return err
 	}
+	if err := h.checkSegments(r); err != nil {
+		return err
+	}
 	switch r.Method {
 	case http.MethodGet, http.MethodHead:
 		return h.get(w, r)

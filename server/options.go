@@ -55,6 +55,9 @@ type Options struct {
 	// MaxInfinity is how many resources a PROPFIND of Depth infinity may concern. 0: none, and the response to one for
 	// a collection is 403.
 	MaxInfinity int
+	// MaxSegments is how many segments the path of a request may have, and that of a Destination. 0: 512. Collections can
+	// be nested more deeply by COPY and MOVE, and are then reached from above.
+	MaxSegments int
 	// Quota is how many bytes all files may have together. 0: no limit.
 	Quota int64
 	// Memory is how many bytes the address space of davd may have. When they are used up, requests fail with 507. 0: no
@@ -81,6 +84,7 @@ const (
 	defaultMaxBody      = 1 << 30
 	defaultMaxXML       = 1 << 20
 	defaultXMLMemory    = 512 << 20
+	defaultMaxSegments  = 512
 	defaultShare        = 50
 	uploadsOfMaxBody    = 64
 	defaultMaxLock      = 10 * time.Minute
@@ -104,7 +108,7 @@ func (o Options) complete() (Options, error) {
 		}
 		o.Folder = folder
 	}
-	for _, n := range []int64{o.MaxBody, o.MaxXML, int64(o.MaxInfinity), o.Quota, o.Memory, o.LeastRate, o.XMLMemory, o.MaxUploads} {
+	for _, n := range o.limits() {
 		if n < 0 {
 			return o, fmt.Errorf("a limit is negative: %d", n)
 		}
@@ -120,6 +124,7 @@ func (o Options) complete() (Options, error) {
 	}
 	setDefault(&o.MaxBody, defaultMaxBody)
 	setDefault(&o.MaxXML, defaultMaxXML)
+	setDefault(&o.MaxSegments, defaultMaxSegments)
 	setDefault(&o.XMLMemory, defaultXMLMemory)
 	setDefault(&o.ClientShare, defaultShare)
 	setDefault(&o.MaxUploads, o.defaultUploads())
@@ -133,6 +138,14 @@ func (o Options) complete() (Options, error) {
 		o.Principal = func(*http.Request) (string, bool) { return "", false }
 	}
 	return o, nil
+}
+
+// limits returns the limits that are numbers.
+func (o Options) limits() []int64 {
+	return []int64{
+		o.MaxBody, o.MaxXML, int64(o.MaxInfinity), int64(o.MaxSegments), o.Quota, o.Memory, o.LeastRate, o.XMLMemory,
+		o.MaxUploads,
+	}
 }
 
 // defaultUploads returns how many bytes may be under way. Without a folder davd has them in its memory.

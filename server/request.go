@@ -140,6 +140,25 @@ func (h *Handler) checkDestination(r *http.Request) error {
 	return statusError(http.StatusBadGateway)
 }
 
+// checkSegments refuses a path or a Destination with more segments than the engine is given. What a request costs grows
+// with their number, and each resource has the whole path as its name while it is listed.
+func (h *Handler) checkSegments(r *http.Request) error {
+	for _, text := range []string{r.URL.EscapedPath(), r.Header.Get("Destination")} {
+		if segments(text) > h.options.MaxSegments {
+			return statusError(http.StatusRequestURITooLong)
+		}
+	}
+	return nil
+}
+
+// segments returns how many segments the path of a URL has. davd reads a backslash in a Destination as a slash.
+func segments(text string) int {
+	if _, after, ok := strings.Cut(text, "://"); ok {
+		_, text, _ = strings.Cut(after, "/")
+	}
+	return len(strings.FieldsFunc(text, func(r rune) bool { return r == '/' || r == '\\' }))
+}
+
 // plainHost returns a host in lower case and without the port of http or https. A proxy that ends TLS changes the
 // scheme, so two URLs of this server may differ in it.
 func plainHost(host string) string {

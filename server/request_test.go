@@ -84,6 +84,38 @@ func TestCheckDestination(t *testing.T) {
 	}
 }
 
+func TestSegments(t *testing.T) {
+	for text, want := range map[string]int{
+		"": 0, "/": 0, "//": 0, "/a": 1, "/a/": 1, "/a/b": 2, "/a//b": 2, "/a%2fb": 1, `/a\b`: 2,
+		"http://host": 0, "http://host/": 0, "http://host/a/b": 2, "http://host:80/a": 1, `http://host/a\b`: 2,
+	} {
+		if got := segments(text); got != want {
+			t.Errorf("%q has %d segments, not %d", text, got, want)
+		}
+	}
+}
+
+func TestPathsHaveABound(t *testing.T) {
+	h := &Handler{options: Options{MaxSegments: 3}}
+	for _, test := range []struct {
+		path, destination string
+		want              error
+	}{
+		{"/a/b/c", "", nil},
+		{"/a/b/c/", "/x/y/z/", nil},
+		{"/a/b/c/d", "", statusError(http.StatusRequestURITooLong)},
+		{"/a", "/x/y/z/w", statusError(http.StatusRequestURITooLong)},
+		{"/a", "http://h/x/y/z", nil},
+		{"/a", "http://h/x/y/z/w", statusError(http.StatusRequestURITooLong)},
+	} {
+		r := httptest.NewRequest("MOVE", test.path, nil)
+		r.Header.Set("Destination", test.destination)
+		if got := h.checkSegments(r); got != test.want {
+			t.Errorf("%s to %q: %v, not %v", test.path, test.destination, got, test.want)
+		}
+	}
+}
+
 func TestIsBelowPrefix(t *testing.T) {
 	tests := []struct {
 		prefix, path string

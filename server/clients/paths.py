@@ -97,6 +97,45 @@ def deep(server):
     server.ask("GET", f"{place}f", status=404)
 
 
+LEVELS = 512  # of -max-segments
+
+
+def levels(path):
+    return path.strip("/").count("/") + 1
+
+
+@GROUP.check("a path of more than 512 segments is 414, and so is such a Destination")
+def long_paths(server):
+    path = server.folder()
+    longest = path + "d/" * (LEVELS - levels(path))
+    server.ask("GET", longest, status=404)
+    server.ask("GET", longest + "d", status=414)
+    server.ask("PUT", f"{path}f", b"x", status=201)
+    for destination, status in (longest, 409), (longest + "d", 414), (server.url(longest + "d"), 414):
+        server.ask("COPY", f"{path}f", None, {"Destination": destination}, status)
+
+
+@GROUP.check("8,000 nested collections are removed in a few seconds")
+def very_deep(server):
+    """Each MOVE puts the chain so far below another one, so no path is long."""
+    path = server.folder()
+    depth = LEVELS - levels(path) - 1
+    place = f"{path}d/"
+    server.ask("MKCOL", place, status=201)
+    for _ in range(depth - 1):
+        place += "d/"
+        server.ask("MKCOL", place, status=201)
+    server.ask("COPY", f"{path}d/", None, {"Destination": f"{path}e/"}, 201)
+    for _ in range(8000 // depth):
+        server.ask("COPY", f"{path}d/", None, {"Destination": f"{path}f/"}, 201)
+        server.ask("MOVE", f"{path}e/", None, {"Destination": f"{path}f/" + "d/" * depth}, 201)
+        server.ask("MOVE", f"{path}f/", None, {"Destination": f"{path}e/"}, 201)
+    began = time.monotonic()
+    server.ask("DELETE", f"{path}e/", status=204, seconds=60)
+    if time.monotonic() - began > 5:
+        raise Wrong(f"expected an answer within 5 s, got it after {time.monotonic() - began:.1f} s")
+
+
 @GROUP.check("PUT with Content-Range writes a part")
 def part(server):
     path = server.folder() + "a"

@@ -196,6 +196,7 @@ func (c *config) addLimits(flags *flag.FlagSet) {
 	flags.DurationVar(&o.MaxLock, "max-lock", 10*time.Minute, "longest time until a lock expires")
 	flags.DurationVar(&o.MaxClockChange, "max-clock-change", clock.MaxChange, clockUsage)
 	flags.IntVar(&o.MaxInfinity, "max-infinity", 0, "greatest `number` of resources in a PROPFIND of Depth infinity")
+	flags.IntVar(&o.MaxSegments, "max-segments", 512, "greatest `number` of segments of a path")
 	flags.IntVar(&o.ClientShare, "client-share", 50, "`percentage` of each limit for all that one client may use")
 	flags.Var((*size.Size)(&o.MaxUploads), "max-uploads", "greatest `size` of all uploads under way (default 64 times -max-body)")
 	flags.Var((*size.Size)(&o.XMLMemory), "xml-memory", "greatest `size` of the memory for XML and lists of members")
@@ -227,6 +228,8 @@ func (c *config) check(rest []string) error {
 		return errors.New("-user-header needs -trusted-proxy")
 	case c.options.ClientShare < 1 || c.options.ClientShare > 100:
 		return errors.New("-client-share is 1 to 100")
+	case c.options.MaxSegments < 1:
+		return errors.New("-max-segments is at least 1")
 	case c.options.XMLMemory < 1:
 		return errors.New("-xml-memory is more than 0")
 	case c.maxConnections < 1 || c.maxRequests < 1:
