@@ -40,6 +40,13 @@ func (q *quota) take(n int64) bool {
 	return true
 }
 
+// mayTake reports whether there is room for n bytes more, and counts nothing.
+func (q *quota) mayTake(n int64) bool {
+	q.mu.Lock()
+	defer q.mu.Unlock()
+	return n <= 0 || n <= q.total-q.bound
+}
+
 // reserve makes room for a number of bytes of which an upper bound is known. If there is no room for that many, it asks
 // how many they are exactly. If there is no room for these either, the error has the status 507. The caller must call
 // release when the bytes are written, or are not going to be.
@@ -99,16 +106,23 @@ func (h *Handler) reserve(ctx context.Context, most int64, exact func() (int64, 
 
 // reserveUpload makes room for a PUT or a PATCH whose body has this length.
 func (h *Handler) reserveUpload(r *http.Request, length int64) (release func(), err error) {
+	most, exact := h.growth(r, length)
+	return h.reserve(r.Context(), most, exact)
+}
+
+// growth returns how many bytes more all files have at most after a PUT or a PATCH whose body has this length, and what
+// asks how many exactly.
+func (h *Handler) growth(r *http.Request, length int64) (most int64, exact func() (int64, error)) {
 	begin := places(r.Method, r.Header)
-	most := begin.offset(0) + length
-	return h.reserve(r.Context(), most, func() (int64, error) {
+	most = begin.offset(0) + length
+	return most, func() (int64, error) {
 		old, _, err := h.look(r.Context(), pathOf(r), h.principal(r))
 		if old == nil || err != nil {
 			return most, err
 		}
 		end := begin.offset(int64(old.Length)) + length
 		return greater(end-int64(old.Length), 0), nil
-	})
+	}
 }
 
 // A choice is some places, one of which is where an update begins.

@@ -32,6 +32,9 @@ func (h *Handler) upload(w http.ResponseWriter, r *http.Request) error {
 	if err != nil {
 		return err
 	}
+	if err := h.checkUpload(r); err != nil {
+		return err
+	}
 	counts, err := h.beginUpload(r)
 	if err != nil {
 		return err
