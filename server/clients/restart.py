@@ -69,10 +69,10 @@ def while_stopped(starter: Starter, method: str, body: bytes | None, fields: dic
         raise Wrong(f"expected {method} /a among what davd had not answered, got\n{server.log()}")
 
 
-# What only reads is sent again, to a davd that has no file.
+# What only reads is sent again, to a davd that has no file: also what the server asks before it reads a long body.
 UNDER_WAY = [
     ("PUT", b"new", {}, (503,)),
-    ("PUT", b"new" * 1_000_000, {}, (503,)),
+    ("PUT", b"new" * 1_000_000, {}, (201, 503)),
     ("DELETE", None, {}, (503,)),
     ("MKCOL", None, {}, (503,)),
     ("COPY", None, {"Destination": "/b"}, (503,)),
