@@ -4,3 +4,4 @@ pub mod Access
 pub mod Prefixes
 pub mod Decisions
 pub mod Moves
+pub mod Named

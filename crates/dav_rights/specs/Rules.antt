@@ -1,5 +1,5 @@
 -- Rules as they are written, and those that apply to a caller: this project's own choice.
-use Rattle.std.specs.Prelude.{ℕ, suc, Bool, true, false, List, [], ◌∷◌, ◌++◌, bytes_eq, codes, if◌then◌else◌, Option, Some, None, option_map}
+use Rattle.std.specs.Prelude.{ℕ, suc, Bool, true, false, not, ◌&&◌, List, [], ◌∷◌, ◌++◌, bytes_eq, codes, if◌then◌else◌, Option, Some, None, option_map}
 use Rattle.std.specs.List.{list_any}
 use Rattle.std.specs.Option.{option_to_list}
 use Rattle.dav_key.specs.Key.{Key}
@@ -51,6 +51,28 @@ abbrev pub rules_from : ℕ → Caller → List WrittenRule → List Rule
 rules_from number caller [] = []
 rules_from number caller (written ∷ rest) = option_to_list (rule_for number caller written) ++ rules_from (suc number) caller rest
 
--- the rules that apply to a caller, in order
+-- ---- a caller whose name is no segment
+
+-- the caller has a name, and that may not be a segment
+abbrev pub is_misnamed : Caller → Bool
+is_misnamed None = false
+is_misnamed (Some name) = not (is_segment name)
+
+-- the rule's path has `{user}`
+abbrev pub has_user_segment : Key → Bool
+has_user_segment key = list_any (λ segment. bytes_eq segment (codes "{user}")) key
+
+-- the rule is for the caller, and its path has `{user}`
+abbrev pub is_by_name : Caller → WrittenRule → Bool
+is_by_name caller written = is_for caller written.who && has_user_segment written.key
+
+-- a rule for the caller has no path, because the caller's name may not be a segment. Such a rule may take rights away, so it
+-- does not drop out: nothing is allowed to the caller
+abbrev pub is_barred : Caller → List WrittenRule → Bool
+is_barred caller rules = is_misnamed caller && list_any (is_by_name caller) rules
+
+-- ---- the rules that apply
+
+-- the rules that apply to a caller, in order; none if it is barred
 abbrev pub rules_for : Caller → List WrittenRule → List Rule
-rules_for caller rules = rules_from 1 caller rules
+rules_for caller rules = if is_barred caller rules then [] else rules_from 1 caller rules

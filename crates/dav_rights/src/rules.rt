@@ -2,7 +2,7 @@
 ghost use Rattle.std.specs.Prelude.{◌≡◌, IfOk, IfSome, bytes_eq, option_copied};
 ghost use Rattle.std.specs.List.{list_any};
 ghost use Rattle.dav_key.specs.Flat.{IsFlatSegment};
-ghost use Rattle.dav_rights.specs.Rules.{is_for, own_segment, segment_for, key_for, rule_for, rules_for};
+ghost use Rattle.dav_rights.specs.Rules.{is_for, own_segment, segment_for, key_for, rule_for, is_misnamed, has_user_segment, is_by_name, is_barred, rules_for};
 
 use crate::rights::Rights;
 use crate::rule::{Allowed, Rule};
@@ -77,6 +77,13 @@ impl WrittenRule {
             allowed: self.allowed,
         }))
     }
+
+    /// Whether the rule is for this caller, and its path has `{user}`.
+    fn is_by_name(&self, caller: Option<&str>) -> bool
+        ensures { result ≡ is_by_name (option_copied caller.entry) self.now }
+    {
+        self.who.is_for(caller) && has_user_segment(&self.key)
+    }
 }
 
 /// The rules of a server, in order.
@@ -87,11 +94,17 @@ pub struct Rules {
 
 impl Rules {
     /// Returns the rules that apply to a caller with this name, or to one without a name, in their order. A rule whose
-    /// path has `{user}` applies only to a caller whose name may be a segment of a path. Fails only if memory runs out.
+    /// path has `{user}` does not apply to a caller without a name.
+    ///
+    /// No rule applies to a caller whose name may not be a segment of a path, if a rule for it has `{user}` in its path:
+    /// that rule may take rights away, so nothing is allowed. Fails only if memory runs out.
     pub fn rights_of(&self, alloc: Global, caller: Option<&str>) -> Result<Rights, AllocError>
         ensures { IfOk result (λ rights. rights.rules.items ≡ rules_for (option_copied caller.entry) self.now.rules.items) }
     {
         let mut own = Vec::new(alloc);
+        if self.bars(caller) {
+            return Ok(Rights { rules: own });
+        }
         for (index, rule) in self.rules.iter().enumerate() {
             if let Some(rule) = rule.rule_for(alloc, index + 1, caller)? {
                 own.push(rule)?;
@@ -99,6 +112,38 @@ impl Rules {
         }
         Ok(Rights { rules: own })
     }
+
+    /// Whether nothing is allowed to this caller, because a rule for it has `{user}` in its path, and its name may not be
+    /// a segment.
+    fn bars(&self, caller: Option<&str>) -> bool
+        ensures { result ≡ is_barred (option_copied caller.entry) self.now.rules.items }
+    {
+        is_misnamed(caller) && self.has_rule_by_name(caller)
+    }
+
+    /// Whether one of the rules is for this caller and has `{user}` in its path.
+    fn has_rule_by_name(&self, caller: Option<&str>) -> bool
+        ensures { result ≡ list_any (is_by_name (option_copied caller.entry)) self.now.rules.items }
+    {
+        self.rules.iter().any(|rule| rule.is_by_name(caller))
+    }
+}
+
+/// Whether a caller has a name that may not be a segment.
+fn is_misnamed(caller: Option<&str>) -> bool
+    ensures { result ≡ is_misnamed (option_copied caller.entry) }
+{
+    match caller {
+        Some(name) => !is_segment(name),
+        None => false,
+    }
+}
+
+/// Whether the path of a rule has `{user}`.
+fn has_user_segment(key: &FlatKey) -> bool
+    ensures { result ≡ has_user_segment key.now }
+{
+    key.segments().any(|segment| segment == CALLER)
 }
 
 /// Returns the key with the name of the caller for each `{user}`, if it has none or the name may be a segment.
