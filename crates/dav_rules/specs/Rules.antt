@@ -1,14 +1,14 @@
 -- The rules of access rights, as a text in TOML 1.0 has them: this project's own choice.
-use Rattle.std.specs.Prelude.{◌≡◌, ◌⊎◌, ℕ, ◌+◌, ◌==◌, Bool, true, false, ◌&&◌, ◌||◌, List, [], ◌∷◌, codes, bytes_eq, is_some, map, if◌then◌else◌, Option, Some, None, option_map, option_and_then, Result, MatchResult}
+use Rattle.std.specs.Prelude.{◌≡◌, ◌⊎◌, ℕ, ◌+◌, ◌-◌, ◌==◌, Bool, true, false, not, ◌&&◌, ◌||◌, List, [], ◌∷◌, length, take, drop, slice_index, codes, bytes_eq, is_some, map, if◌then◌else◌, Option, Some, None, option_map, option_and_then, Result, MatchResult}
 use Rattle.std.specs.Borrow.{Bor}
-use Rattle.std.specs.List.{list_all, list_any}
-use Rattle.std.specs.Result.{result_ok}
+use Rattle.std.specs.List.{list_all, list_any, slice_split}
 use Rattle.toml.specs.Data.{Data, Items, no_items, item, Members, no_members, member, get, get_member, as_str, as_bool, as_array, as_table}
 use Rattle.toml.specs.Parse.{parse_document}
 use Rattle.toml.specs.View.{view, items_view}
 use Rattle.toml.specs.declared.value.Value.{Value}
 use Rattle.dav_key.specs.Key.{Key}
-use Rattle.dav_resource.specs.PathText.{PathValue, read_path}
+use Rattle.percent_encoding.specs.Percent.{percent_decode}
+use Rattle.dav_resource.specs.PathText.{is_slash, ends_in_slash, is_readable, is_segment}
 use Rattle.dav_rights.specs.declared.rule.Allowed.{Allowed}
 use Rattle.dav_rights.specs.declared.rules.Who.{Who}
 use Rattle.dav_rights.specs.declared.rules.Who.TheVariants.{Everyone, OneOf}
@@ -82,12 +82,34 @@ names_of groups rule = one_of groups (get (codes "everyone") rule) (get (codes "
 
 -- ---- where
 
--- the key of a path
-abbrev pub key_of : PathValue → Option Key
-key_of path = if path.star then None else Some path.key
+-- neither `?` nor `#`: these end the path of a request, and a name has them as `%3F` and `%23`
+abbrev pub is_path_byte : ℕ → Bool
+is_path_byte b = not (b == 63) && not (b == 35)
+
+-- the text without its last slash, if it ends in one
+abbrev pub without_last_slash : List ℕ → List ℕ
+without_last_slash text = if ends_in_slash text then take (length text - 1) text else text
+
+-- the parts of a path that begins with a slash: what is behind each slash, up to the next. A slash at the end begins no part,
+-- so `/` has none, and `/a/` has the one of `/a`
+abbrev pub parts_of : List ℕ → List (List ℕ)
+parts_of text = drop 1 (slice_split is_slash (without_last_slash text))
+
+-- the part names a segment: each `%` in it is a whole escape and, percent-decoded, it is UTF-8, has neither NUL nor `/`, and is
+-- neither empty, `.` nor `..`
+abbrev pub names_segment : List ℕ → Bool
+names_segment part = is_readable part && is_segment (percent_decode part)
+
+-- the path means what is written: it begins with a slash, has neither `?` nor `#`, and each part names a segment
+abbrev pub is_exact : List ℕ → Bool
+is_exact text = slice_index text 0 == 47 && list_all is_path_byte text && list_all names_segment (parts_of text)
+
+-- the key of such a path has its parts as segments, percent-decoded: each of them, in order, and nothing else
+abbrev pub key_of : List ℕ → Option Key
+key_of text = if is_exact text then Some (map percent_decode (parts_of text)) else None
 
 abbrev pub key_at : Data → Option Key
-key_at value = option_and_then key_of (option_and_then (λ text. result_ok (read_path text [])) (as_str value))
+key_at value = option_and_then key_of (as_str value)
 
 -- exactly one of the two says where
 abbrev pub place_in : Option Data → Option Data → Option (Key × Bool)

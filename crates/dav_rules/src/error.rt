@@ -22,8 +22,8 @@ pub enum RuleFault {
     /// It is for a group that is no list of names.
     #[error("no list of names in groups has the name of this group")]
     NoGroup,
-    /// It is not made for one path.
-    #[error("a rule has one of at and at_and_below, which is a path that begins with /")]
+    /// It is not made for one path, or the path does not mean what is written.
+    #[error("a rule has one of at and at_and_below, a path: it begins with /, each % is an escape such as %20, and it has no ? or # (write %3F or %23), no empty segment and no segment . or ..")]
     Place,
     /// It does not list what it allows.
     #[error("allow is a list of list, read and write, which may be empty")]

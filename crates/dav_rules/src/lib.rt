@@ -11,8 +11,12 @@
 //! ```
 //!
 //! A rule is for one caller (`user`), for those of a group (`group`), or for everyone (`everyone = true`). It is made for
-//! one resource (`at`), or for it and all below it (`at_and_below`). The path is that of a URL, so `%`, `?` and `#` of a
-//! name are escaped. It allows what it lists: `list`, `read` and `write`, or nothing.
+//! one resource (`at`), or for it and all below it (`at_and_below`). It allows what it lists: `list`, `read` and `write`,
+//! or nothing.
+//!
+//! The segments of a path are what is written between its slashes, percent-decoded, so `%`, `?` and `#` of a name are
+//! escaped. A slash at the end changes nothing. A path of which something would be cut off or dropped is refused: one with
+//! `?` or `#`, an empty segment, or a segment `.` or `..`.
 #![tactic(auto)]
 
 mod allow;
