@@ -651,12 +651,14 @@ for words, wanted in [
     (["bert", "/hiding/m/b"], "rule 9 decides: bert may do nothing at /hiding/m/b\n"),
     (["bert", "/"], "no rule decides: bert may list /, because a rule allows something below it\n"),
     (["-", "/shared"], "no rule decides: a request without a user may do nothing at /shared\n"),
+    (["a/b", "/home/a"], "no rule decides: a/b may do nothing at /home/a\n"),
 ]:
     CHECK.add(" ".join(words), says, words, 0, wanted)
 for words, wanted in [
     (["bert"], "needs a FILE, a USER and a PATH"),
     (["", "/"], "the USER is empty"),
     (["bert", "shared"], "does not begin with a slash"),
+    (["bert", "/#shared"], "has a ? or #"),
     (["bert", "/%zz"], "none that a URL can have"),
 ]:
     CHECK.add(f"{' '.join(words)} is a wrong command line", says, words, 2, wanted)
@@ -684,5 +686,7 @@ def found_team() -> str:
 def refused_file(starter: Starter):
     starter.write("rules.toml", RULES.replace("allow = []", "allow = [1]", 1))
     says(starter, ["bert", "/"], 1, "rules.toml: rule 9: allow is a list of")
+    starter.write("rules.toml", RULES.replace('"/hiding/m"', '"/#hidden"'))
+    says(starter, ["bert", "/"], 1, "rules.toml: rule 9: a rule has one of at and at_and_below, a path: ")
     (starter.folder / "rules.toml").unlink()
     says(starter, ["bert", "/"], 1, "no such file")

@@ -118,6 +118,8 @@ func (c *checkConfig) set(words []string) error {
 		return fmt.Errorf("the USER is empty (%s is a request without a user)", nobody)
 	case !strings.HasPrefix(words[3], "/"):
 		return errors.New("the PATH does not begin with a slash")
+	case strings.ContainsAny(words[3], "?#"):
+		return errors.New("the PATH has a ? or #, which a name has as %3F or %23")
 	}
 	c.file, c.user, c.path = words[1], words[2], words[3]
 	return nil

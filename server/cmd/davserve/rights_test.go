@@ -30,6 +30,8 @@ func TestParseCheckRefuses(t *testing.T) {
 		{[]string{"check", "", "ada", "/"}, "FILE is empty"},
 		{[]string{"check", "f", "", "/"}, "USER is empty"},
 		{[]string{"check", "f", "ada", "a"}, "does not begin with a slash"},
+		{[]string{"check", "f", "ada", "/a?b"}, "%3F or %23"},
+		{[]string{"check", "f", "ada", "/#recycle"}, "%3F or %23"},
 		{[]string{"check", "-davd=", "f", "ada", "/"}, "the name is empty"},
 		{[]string{"check", "f", "ada", "/", "-listen", ":1"}, "not defined"},
 	}
@@ -121,6 +123,34 @@ func TestAnErrorNamesTheFile(t *testing.T) {
 	}
 	if err := inFile("rules.toml", nil); err != nil {
 		t.Errorf("no error: %v", err)
+	}
+}
+
+func TestCheckNamesARuleWithoutItsPath(t *testing.T) {
+	program := os.Getenv("DAVD")
+	if program == "" {
+		program = "../../../crates/davd/out/davd"
+	}
+	if _, err := os.Stat(program); err != nil {
+		t.Skipf("no davd: %v", err)
+	}
+	const all = "[[rule]]\neveryone = true\nat_and_below = \"/\"\nallow = [\"list\"]\n"
+	for path, status := range map[string]int{
+		"/recycle": 0, "/%23recycle/": 0, "/#recycle": 1, "/a?b": 1, "/a//b": 1, "/a/../b": 1, "/a/%2e": 1, "recycle": 1,
+	} {
+		file := fileOf(t, all+"[[rule]]\neveryone = true\nat_and_below = \""+path+"\"\nallow = []\n")
+		var output, errorOutput bytes.Buffer
+		got := runRights(context.Background(), []string{"check", "-davd", program, file, "ada", "/"}, &output, &errorOutput)
+		if got != status {
+			t.Errorf("%q: exit status %d, want %d", path, got, status)
+		}
+		want := file + ": rule 2: a rule has one of at and at_and_below, a path: "
+		if status == 1 && (output.Len() != 0 || !strings.Contains(errorOutput.String(), want)) {
+			t.Errorf("%q: it says %q and %q, without %q", path, output.String(), errorOutput.String(), want)
+		}
+		if status == 0 && output.String() != "rule 1 decides: ada may list /\n" {
+			t.Errorf("%q: it says %q", path, output.String())
+		}
 	}
 }
 
