@@ -24,6 +24,6 @@ returns-in-Err c =
     let text = c.args.text.now in
     let whole = and_parts (slice_index text 0 == 47) (list_all is_path_byte text) (sym c.if-not-is_whole_path.ensures) in
     elim c.in-Err.ensures [
-    | inl fails ↦ inl (key_of-failed text whole.0 whole.1 c.in-Err.error fails)
-    | inr memory ↦ inr (c.fault_of.ensures memory)
+      | inl fails ↦ inl (key_of-failed text whole.0 whole.1 c.in-Err.error fails)
+      | inr memory ↦ inr (c.fault_of.ensures memory)
     ]
