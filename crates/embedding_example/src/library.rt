@@ -77,6 +77,51 @@ fn serve_without_locks<'a>(
     print_replies(rt, replies.as_slice())
 }
 
+fn request(alloc: Global, method: &str, path: &str, body: ReqBody) -> Result<DavRequest> {
+    // The token of the lock that this request creates. A server makes a new one for each request.
+    let token = String::from_str(alloc, "urn:lock:1")?;
+    Ok(DavRequest {
+        method: Method::from_bytes(alloc, method.as_bytes())?,
+        path: DavPath::from_str_and_prefix(alloc, path, "")?,
+        headers: HeaderMap::new(alloc),
+        body,
+        principal: None,
+        token: LockToken::from_string(token).context("no lock token")?,
+        now: 0,
+    })
+}
+
+/// Builds the body of a LOCK that asks for an exclusive write lock. A server reads it from XML.
+fn lock_info(alloc: Global) -> Result<Element> {
+    let mut info = dav(alloc, "lockinfo")?;
+    for (name, choice) in [("lockscope", "exclusive"), ("locktype", "write")] {
+        let mut part = dav(alloc, name)?;
+        part.push_element(dav(alloc, choice)?)?;
+        info.push_element(part)?;
+    }
+    Ok(info)
+}
+
+/// Asks for two properties of a collection and of its members.
+fn propfind(alloc: Global, path: &str) -> Result<DavRequest> {
+    let mut request = request(alloc, "PROPFIND", path, ReqBody::Tree(asked(alloc)?))?;
+    let depth = HeaderName::from_bytes(alloc, b"depth")?;
+    request
+        .headers
+        .append(depth, HeaderValue::from_str(alloc, "1")?)?;
+    Ok(request)
+}
+
+fn asked(alloc: Global) -> Result<Element> {
+    let mut names = dav(alloc, "prop")?;
+    for name in ["getcontentlength", "getetag"] {
+        names.push_element(dav(alloc, name)?)?;
+    }
+    let mut asked = dav(alloc, "propfind")?;
+    asked.push_element(names)?;
+    Ok(asked)
+}
+
 fn print_replies(rt: &HostRuntime, replies: &[DavResult<Response<Body>>]) -> Result<()> {
     for reply in replies {
         match reply {
