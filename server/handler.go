@@ -89,8 +89,12 @@ func arguments(options Options) []string {
 	if options.Prefix != "" {
 		arguments = append(arguments, "-prefix", options.Prefix)
 	}
-	if options.Quota > 0 {
-		arguments = append(arguments, "-quota", strconv.FormatInt(options.Quota, 10))
+	quota := options.Quota
+	if options.reportsFree() {
+		quota = noQuota
+	}
+	if quota > 0 {
+		arguments = append(arguments, "-quota", strconv.FormatInt(quota, 10))
 	}
 	return arguments
 }

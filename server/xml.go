@@ -88,7 +88,7 @@ func (h *Handler) propfind(w http.ResponseWriter, r *http.Request) error {
 		return err
 	}
 	if depth := r.Header.Get("Depth"); depth == "0" || depth == "1" {
-		return h.answer(w, r, request)
+		return h.find(w, r, request)
 	}
 	file, isCollection, err := h.look(r.Context(), request.Path, request.Principal)
 	switch {
@@ -102,7 +102,7 @@ func (h *Handler) propfind(w http.ResponseWriter, r *http.Request) error {
 		setDepth(request, "infinity")
 		request.Fields = append(request.Fields, frame.Field{Name: "x-litmus", Value: "davserve"})
 	}
-	return h.answer(w, r, request)
+	return h.find(w, r, request)
 }
 
 // setDepth replaces the header field Depth.

@@ -6,6 +6,7 @@ import random
 import signal
 import subprocess
 
+import quota
 from connection import Wrong
 from harness import Group, Skipped, Starter
 from server import Server, expect
@@ -128,3 +129,32 @@ def others_fill_it(starter: Starter):
             server.ask("DELETE", f"/d{number}", status=204)
         compare(server, [0])
         server.stop()
+
+
+def free(starter: Starter) -> int:
+    """The bytes that are free on the small disk."""
+    disk = os.statvfs(starter.folder / "disk")
+    return disk.f_bavail * disk.f_frsize
+
+
+@GROUP.check("without -quota the available bytes are those that are free at the time, and no limit")
+def available(starter: Starter):
+    with small_disk(starter):
+        server = starter.start("-folder", "{folder}/disk/kept")
+        server.ask("PUT", "/0", body(0), status=201)
+        expect("used and available", quota.figures(server), (BODY, free(starter)))
+        fill_but(starter, 2 * BODY)
+        expect("used and available beside a file of others", quota.figures(server), (BODY, 2 * BODY))
+        for number in range(1, MOST):  # A copy needs no room for its bytes.
+            server.ask("COPY", "/0", None, {"Destination": f"/{number}"}, 201)
+        expect("used and available after copies", quota.figures(server), (MOST * BODY, free(starter)))
+        compare_copies(server)
+        (starter.folder / "disk" / "other").unlink()
+        expect("used and available when it is gone", quota.figures(server), (MOST * BODY, free(starter)))
+        server.stop()
+
+
+def compare_copies(server: Server):
+    for number in (0, 1, MOST - 1):
+        if server.ask("GET", f"/{number}", status=200).body != body(0):
+            raise Wrong(f"/{number} has other bytes")

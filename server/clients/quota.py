@@ -10,7 +10,8 @@ from server import Server, expect
 TOTAL = 1_000_000
 GROUP = Group("quota", "-quota", str(TOTAL))
 WITHOUT = Group("no quota")
-GROUPS = [GROUP, WITHOUT]
+KEPT = Group("quota over a folder", "-quota", str(TOTAL), "-folder", "{folder}/kept")
+GROUPS = [GROUP, WITHOUT, KEPT]
 PATCH_TYPE = {"Content-Type": "application/x-sabredav-partialupdate"}
 
 
@@ -133,3 +134,12 @@ def none(server):
     statuses = [found.status_of(it) for it in names]
     if statuses[1] != 404 or statuses[0] not in (200, 404):
         raise Wrong(f"expected that the available bytes are not known, got {statuses}")
+
+
+@KEPT.check("a quota over a folder is reported and enforced as in memory")
+def kept(server):
+    path = emptied(server)
+    expect("used and available", figures(server), (0, TOTAL))
+    server.ask("PUT", f"{path}a", b"x" * 600_000, status=201)
+    server.ask("PUT", f"{path}b", b"x" * 400_001, status=507)
+    expect("used and available", figures(server), (600_000, 400_000))

@@ -12,5 +12,5 @@ func Free(folder string) (int64, error) {
 	if err := syscall.Statfs(folder, &disk); err != nil {
 		return 0, &os.PathError{Op: "statfs", Path: folder, Err: err}
 	}
-	return int64(disk.Bavail) * int64(disk.Bsize), nil
+	return int64(disk.Bavail) * blockSize(&disk), nil
 }

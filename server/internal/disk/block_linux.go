@@ -1,0 +1,11 @@
+package disk
+
+import "syscall"
+
+// blockSize returns how many bytes a block has of those that a file system counts.
+func blockSize(disk *syscall.Statfs_t) int64 {
+	if disk.Frsize > 0 {
+		return disk.Frsize
+	}
+	return disk.Bsize
+}
