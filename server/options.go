@@ -58,12 +58,13 @@ type Options struct {
 	// MaxSegments is how many segments the path of a request may have, and that of a Destination. 0: 512. Collections can
 	// be nested more deeply by COPY and MOVE, and are then reached from above.
 	MaxSegments int
-	// Quota is how many bytes all files may have together. 0: no limit.
+	// Quota is how many bytes all files may have together. 0: no limit, and over a folder the available bytes that clients
+	// read are those that are free on its file system.
 	Quota int64
 	// Memory is how many bytes the address space of davd may have. When they are used up, requests fail with 507. 0: no
 	// limit; fewer than 16 MiB are refused, because davd may not start with them. Over a folder it applies once the folder
 	// is loaded, and davd may have four times as many before. If it has more after that, each request that may add
-	// something fails with 507.
+	// something fails with 507. On Linux a sixteenth is for what frees memory, such as a DELETE.
 	Memory int64
 	// StallTimeout is how long a client may take to send or to receive a part of a body. 0: one minute. It needs
 	// ConnContext in the http.Server.

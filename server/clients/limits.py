@@ -4,8 +4,10 @@ import signal
 import threading
 import time
 
+import operator_locks
 from connection import Cut, Wrong, chunked, head
 from harness import Group, Starter
+from multistatus import lockinfo, token_of
 from server import expect, expected, memory_of
 
 MB = 1 << 20
@@ -185,6 +187,107 @@ def properties(starter: Starter):
     if used > HOST_BOUND:
         raise Wrong(f"expected at most {HOST_BOUND // MB} MB, got {used // MB} MB")
     return f"the host used {used // MB} MB for a response of {len(answer.body) // 1000} KB"
+
+
+# ---- what frees memory when it is full
+
+FILLED, ROUNDS = 24 * MB, 12
+FILLED_FLAG = "-memory", f"{FILLED // MB}M"
+LENGTHS = 100_000, 4096, 500, 30
+
+
+def thousand(server, path: str):
+    """Makes a collection of 1000 files."""
+    server.ask("MKCOL", path, status=201)
+    with server.connect() as connection:
+        for number in range(1000):
+            connection.request("PUT", f"{path}/{number}", b"x")
+            expected(connection.answer("PUT"), 201, "PUT")
+
+
+def copy_all(server, target: str) -> int:
+    """Copies the collection /a to others until one is refused. Returns the number of that one."""
+    number = 1
+    while server.ask("COPY", "/a", None, {"Destination": f"{target}{number}"}, (201, 503, 507)).status == 201:
+        number += 1
+    return number
+
+
+def fill_rest(server, turn: int = 0):
+    """Fills what is left by properties, each shorter than the one before, until none is set any more."""
+    for length in LENGTHS:
+        for number in range(1000):
+            value = b"<v%d xmlns='urn:v'>%b</v%d>" % (turn, b"v" * length, turn)
+            body = b"<propertyupdate xmlns='DAV:'><set><prop>%b</prop></set></propertyupdate>" % value
+            if server.ask("PROPPATCH", f"/a/{number}", body, status=(207, 507)).status == 507:
+                break
+
+
+@MEMORY.check("a folder was copied into itself until -memory was full: a DELETE of 1000 members is 204, and locks are removed")
+def frees(starter: Starter):
+    server = starter.start(*FILLED_FLAG, "-socket", "{folder}/s")
+    thousand(server, "/a")
+    tokens = []
+    for path in ("/locked", "/left"):
+        server.ask("PUT", path, b"x", status=201)
+        tokens.append(token_of(server.ask("LOCK", path, lockinfo(), status=200)))
+    copy_all(server, "/a/b")
+    fill_rest(server)
+    server.ask("COPY", "/a/b1", None, {"Destination": "/c"}, 507)
+    server.ask("UNLOCK", "/locked", None, {"Lock-Token": tokens[0]}, 204)
+    operator_locks.run(starter, "remove", tokens[1][1:-1], where=("-socket", starter.folder / "s"))
+    server.ask("DELETE", "/a/b1", status=204)
+    server.ask("GET", "/a/1", status=200)
+    server.ask("PUT", "/new", b"x", status=201)
+    for path in ("/locked", "/left"):
+        server.ask("DELETE", path, status=204)
+
+
+@MEMORY.check(f"what {ROUNDS} DELETEs free is filled again: each is 204, and davd has no more than -memory", seconds=120)
+def in_turn(starter: Starter):
+    server = starter.start(*FILLED_FLAG)
+    thousand(server, "/a")
+    count = copy_all(server, "/b")
+    if count <= ROUNDS:
+        raise Wrong(f"expected {ROUNDS} copies, got {count - 1}")
+    fill_rest(server)
+    statuses = []
+    for turn in range(1, ROUNDS + 1):
+        server.ask("DELETE", f"/b{turn}", status=204)
+        statuses.append(server.ask("PUT", "/new", b"x", status=(201, 204, 507)).status)
+        fill_rest(server, turn)
+    if "for what frees memory" not in server.log():
+        raise Wrong(f"expected that half of the reserve is used, got statuses {statuses} of PUT")
+    for path in (*(f"/b{turn}" for turn in range(ROUNDS + 1, count)), "/a"):
+        server.ask("DELETE", path, status=204)
+    server.ask("PUT", "/new", b"x", status=(201, 204))
+    most = memory_of(server.davd(), "VmPeak")
+    if most > FILLED:
+        raise Wrong(f"expected at most {FILLED} bytes, got {most}")
+    return f"PUT after each DELETE: {' '.join(map(str, statuses))}; davd had up to {most // 1024} KiB"
+
+
+@MEMORY.check("over a folder that has filled -memory a DELETE of 1000 members is 204, and then a PUT after a start")
+def frees_folder(starter: Starter):
+    server = starter.start(*FILLED_FLAG, "-folder", "{folder}/kept")
+    server.ask("MKCOL", "/a", status=201)
+    with server.connect() as connection:
+        for number in range(FILES):
+            connection.request("PUT", f"/a/{number}", b"x")
+            expected(connection.answer("PUT"), 201, "PUT")
+    server.ask("MKCOL", "/tree", status=201)
+    for number in range(TREES):
+        server.ask("COPY", "/a", None, {"Destination": f"/tree/{number}"}, 201)
+    server.ask("COPY", "/tree", None, {"Destination": "/other"}, 201)
+    count = copy_all(server, "/b")
+    server.await_health()
+    for path in ("/tree", "/other", *(f"/b{number}" for number in range(1, count))):
+        server.ask("DELETE", path, status=204)
+    server.stop()
+    server = starter.start(*FILLED_FLAG, "-folder", "{folder}/kept")
+    server.ask("PUT", "/new", b"x", status=201)
+    server.stop()
+    return f"{count - 1} copies of {FILES} files"
 
 
 # ---- the memory of a davd over a folder

@@ -88,7 +88,7 @@ func (e *Engine) addSpare(spare *Body) {
 // Add adds a piece at the end of the body. After an error the body lacks it and must not be used any more.
 func (b *Body) Add(ctx context.Context, piece []byte) error {
 	b.buffer = b.piece(piece)
-	c := &call{frames: [][]byte{b.buffer}, only: b.process, done: make(chan struct{}, 1), what: "upload"}
+	c := &call{frames: [][]byte{b.buffer}, only: b.process, grows: true, done: make(chan struct{}, 1), what: "upload"}
 	replies, err := b.engine.exchange(ctx, c)
 	if err != nil {
 		b.buffer = nil // It may still be in the queue.

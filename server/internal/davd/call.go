@@ -24,6 +24,9 @@ type call struct {
 	lasts   bool     // davd may keep what it does in its folder; otherwise it ends with the davd that gets it
 	adds    bool     // davd may hold more after it
 	frees   bool     // davd may hold less after it
+	drops   bool     // it drops a body, and does nothing else
+	grows   bool     // it adds to a body
+	holds   bool     // it is about the body that is held in place of the reserve
 	sets    bool     // it sets the access rules
 	made    []int    // the statuses of its response that say that it has changed what davd keeps
 	place   uint64   // its place among all calls that were queued
@@ -47,6 +50,7 @@ func newCall(f frame.Frame) *call {
 		lasts:  lasts(f),
 		adds:   adds(f),
 		frees:  frees(f),
+		drops:  drops(f),
 		sets:   sets(f),
 		made:   madeBy(f),
 		done:   make(chan struct{}, 1),
@@ -178,6 +182,12 @@ func frees(f frame.Frame) bool {
 	return false
 }
 
+// drops reports whether a frame drops a body, which is in memory only.
+func drops(f frame.Frame) bool {
+	_, ok := f.(frame.DropBody)
+	return ok
+}
+
 // describe names a frame in the log.
 func describe(f frame.Frame) string {
 	switch f := f.(type) {
@@ -232,17 +242,18 @@ func (b *batch) changes() bool {
 
 // isAlone reports whether the call has a batch of its own.
 func (c *call) isAlone() bool {
-	return c.sets || c.operates != ""
+	return c.sets || c.operates != "" || c.holds
 }
 
 // cut splits the calls of the next batch from the others. The batch has at least one call. One that sets access rules is
-// alone in its batch, and so is one of an operator.
-func cut(calls []*call) (batch, rest []*call) {
+// alone in its batch, and so is one of an operator, and one that is lent the reserve.
+func cut(calls []*call, isLent func(*call) bool) (batch, rest []*call) {
+	isAlone := func(c *call) bool { return c.isAlone() || isLent(c) }
 	size, frames := 0, 0
 	for i, c := range calls {
 		size += c.size()
 		frames += len(c.frames)
-		if i > 0 && (size > batchBytes || frames > batchFrames || c.isAlone() || calls[0].isAlone()) {
+		if i > 0 && (size > batchBytes || frames > batchFrames || isAlone(c) || isAlone(calls[0])) {
 			return calls[:i:i], calls[i:]
 		}
 	}

@@ -291,7 +291,11 @@ func (e *Engine) submit(c *call) {
 	}
 	e.queued++
 	c.place = e.queued
-	e.waiting = append(e.waiting, c)
+	if c.holds {
+		e.waiting = append([]*call{c}, e.waiting...)
+	} else {
+		e.waiting = append(e.waiting, c)
+	}
 	batch := e.next()
 	e.mu.Unlock()
 	if batch != nil {
@@ -308,7 +312,7 @@ func (e *Engine) refusal(c *call) error {
 		return c.only.lost
 	case e.pausing && !c.sets:
 		return ErrDown
-	case c.adds && e.process != nil && e.process.isFull && !e.renew():
+	case e.process != nil && e.process.refuses(c) && !e.renew():
 		return errNoMemory
 	}
 	return nil
@@ -336,7 +340,9 @@ func (e *Engine) next() *batch {
 	if p == nil || p.renewed || e.writing || e.paused || len(e.waiting) == 0 || len(p.sent) == cap(p.sent) {
 		return nil
 	}
-	if e.mustWait() {
+	short := shortage{process: p}
+	isLent := short.isFor(e.waiting[0])
+	if e.mustWait(isLent) {
 		return nil
 	}
 	e.writing = true
@@ -344,8 +350,11 @@ func (e *Engine) next() *batch {
 	p.pending++
 	b := &batch{process: p, number: p.number, now: e.clock.Now()}
 	b.written.Add(1)
-	b.calls, e.waiting = cut(e.waiting)
+	b.calls, e.waiting = cut(e.waiting, short.isFor)
 	e.guard(b)
+	if isLent {
+		p.lend(b)
+	}
 	for _, c := range b.calls {
 		c.sentTo, c.number = p, b.number
 		p.removed = p.removed || c.frees
@@ -380,6 +389,8 @@ func (e *Engine) write(b *batch) {
 // answered counts a batch as answered, and writes what waits.
 func (e *Engine) answered(p *process) {
 	e.mu.Lock()
+	isUsed, err := p.takeBack()
+	p.isBroken = p.isBroken || err != nil
 	p.isGuarded = p.isBroken
 	if p.pending--; p.pending == 0 {
 		p.isSetting = false
@@ -394,6 +405,7 @@ func (e *Engine) answered(p *process) {
 	if b != nil {
 		go e.write(b)
 	}
+	e.keepReserve(p, isUsed, err)
 }
 
 // failWaiting fails each call that waits. One that sets access rules waits on while davd does not run. It is called with
@@ -422,7 +434,7 @@ func (e *Engine) renew() bool {
 	}
 	// All requests wait for a start. So it takes at most a small part of the time.
 	least := e.config.pauses.full + loadPart*p.loaded.Sub(p.began)
-	if !p.removed || e.backup || e.paused || time.Since(p.loaded) < least {
+	if e.config.Folder == "" || !p.removed || e.backup || e.paused || time.Since(p.loaded) < least {
 		return false
 	}
 	p.renewed = true

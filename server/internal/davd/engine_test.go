@@ -323,6 +323,7 @@ func TestCut(t *testing.T) {
 	small, large, three := callOf(10), callOf(batchBytes), callOf(10, 10, 10)
 	rules := callOf(10)
 	rules.sets = true
+	freeing := callOf(10)
 	many := make([]*call, batchFrames+5)
 	for i := range many {
 		many[i] = small
@@ -342,9 +343,12 @@ func TestCut(t *testing.T) {
 		{"access rules alone", []*call{rules, small}, 1, 1},
 		{"small ones before access rules", []*call{small, small, rules, small}, 2, 2},
 		{"access rules twice", []*call{rules, rules}, 1, 1},
+		{"one with the reserve alone", []*call{freeing, small}, 1, 1},
+		{"small ones before one with the reserve", []*call{small, freeing, small}, 1, 2},
+		{"two with the reserve", []*call{freeing, freeing}, 1, 1},
 	}
 	for _, test := range tests {
-		batch, rest := cut(test.calls)
+		batch, rest := cut(test.calls, func(c *call) bool { return c == freeing })
 		if len(batch) != test.batch || len(rest) != test.rest {
 			t.Errorf("%s: %d and %d, want %d and %d", test.name, len(batch), len(rest), test.batch, test.rest)
 		}

@@ -3,6 +3,7 @@ package davd
 import (
 	"context"
 	"encoding/binary"
+	"fmt"
 	"io"
 	"os"
 	"strconv"
@@ -69,6 +70,12 @@ func fake(how string) {
 				}
 			}
 			writeReplies(number, 200, replies(frames))
+		case how == "shows its limit":
+			os.Stderr.WriteString(kindsOf(frames) + " under " + limitOfSelf() + "\n")
+			time.Sleep(5 * time.Millisecond)
+			writeReplies(number, 200, replies(frames))
+		case how == "no memory for what it holds" && frames[0][0] == 3:
+			writeReplies(number, 507, nil)
 		case how == "slow":
 			time.Sleep(20 * time.Millisecond)
 			writeReplies(number, 200, replies(frames))
@@ -76,6 +83,25 @@ func fake(how string) {
 			writeReplies(number, 200, replies(frames))
 		}
 	}
+}
+
+// kindsOf returns the first byte of each frame, such as [0 0 6].
+func kindsOf(frames [][]byte) string {
+	var kinds []int
+	for _, f := range frames {
+		kinds = append(kinds, int(f[0]))
+	}
+	return fmt.Sprint(kinds)
+}
+
+// limitOfSelf returns the limit of the address space of this process, in bytes.
+func limitOfSelf() string {
+	text, err := os.ReadFile("/proc/self/limits")
+	if err != nil {
+		return err.Error()
+	}
+	_, rest, _ := strings.Cut(string(text), "Max address space")
+	return strings.Fields(rest)[0]
 }
 
 // readBatch reads a batch of frames. It ends the program at the end of the input.

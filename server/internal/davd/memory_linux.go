@@ -27,9 +27,9 @@ func greatestLimit() int64 {
 	return int64(own.Max)
 }
 
-// setLimit limits the address space of a running process to a number of bytes.
-func setLimit(pid int, n int64) error {
-	return prlimit(pid, &syscall.Rlimit{Cur: uint64(n), Max: uint64(n)}, nil)
+// setLimit limits the address space of a running process to a number of bytes. It can be raised later, up to the most.
+func setLimit(pid int, n, most int64) error {
+	return prlimit(pid, &syscall.Rlimit{Cur: uint64(n), Max: uint64(most)}, nil)
 }
 
 // prlimit sets and returns limits of the address space of a running process, as prlimit(2) does. Nil: it does not.

@@ -72,7 +72,7 @@ func TestTheLimitIsLoweredOnceAFolderIsLoaded(t *testing.T) {
 		t.Errorf("a change: %v", err)
 	}
 	awaitLog(t, said, `"262144"`) // KiB
-	awaitLog(t, said, `"65536"`)
+	awaitLog(t, said, `"61440"`)  // without the reserve
 	if strings.Contains(said.String(), "507") {
 		t.Errorf("davd is full:\n%s", said)
 	}

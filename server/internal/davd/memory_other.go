@@ -15,6 +15,6 @@ var errNoLimit = errors.New("a running process cannot be limited")
 
 func greatestLimit() int64 { return math.MaxInt64 }
 
-func setLimit(int, int64) error { return errNoLimit }
+func setLimit(int, int64, int64) error { return errNoLimit }
 
 func addressSpace(int) (int64, error) { return 0, errNoLimit }

@@ -60,7 +60,7 @@ type Status struct {
 func (s Status) WriteTo(e *metrics.Encoder) {
 	e.Gauge("davserve_davd_up", "1 while davd serves, 0 while it does not run or loads its folder.", oneIf(s.Up))
 	e.Gauge("davserve_davd_loading", "1 while davd loads its folder.", oneIf(s.Loading))
-	e.Gauge("davserve_davd_full", "1 while davd has more memory than -memory allows, and nothing can be added.", oneIf(s.Full))
+	e.Gauge("davserve_davd_full", "1 while davd has more memory than it may, and nothing can be added.", oneIf(s.Full))
 }
 
 func oneIf(is bool) float64 {
@@ -76,7 +76,7 @@ func (e *Engine) WriteMetrics(to *metrics.Encoder) {
 	status := Status{Up: e.process != nil && !e.closing, Loading: e.loading}
 	waiting, started, memory := len(e.waiting), e.started, int64(0)
 	if e.process != nil {
-		status.Full = e.process.isFull
+		status.Full = e.process.hasNoRoom()
 		memory, _ = addressSpace(e.process.command.Process.Pid) // On other systems than Linux it is not known.
 	}
 	e.mu.Unlock()

@@ -34,7 +34,7 @@ type process struct {
 	reader  *bufio.Reader
 	began   time.Time              // when it was started
 	loaded  time.Time              // when it had loaded its folder
-	isFull  bool                   // it has more memory than it may, so that nothing is added to its folder
+	isFull  bool                   // it has more memory than it may, so that nothing is added to what it holds
 	removed bool                   // it was sent what removes something
 	changed bool                   // it was sent what may change its folder, and then nothing that lets it note how far it is
 	resting *time.Timer            // sends that when nothing was sent for a while; nil: nothing was ever to be noted
@@ -49,14 +49,15 @@ type process struct {
 	free    time.Time              // when the replies to the last batch were read, so that davd could begin the next one
 	gone    chan struct{}          // closed when it has ended
 	lost    error                  // why a call that it has not done failed; set before gone is closed
+	budget
 	guards
 }
 
-// guards say what may be sent to a davd with regard to its access rules.
+// guards say what may be sent to a davd with regard to its access rules and its memory.
 type guards struct {
 	isSetting bool // it was sent access rules, and has not answered everything since
-	isGuarded bool // it has a batch of an operator, and nothing else is sent until that is answered
-	isBroken  bool // it does not have its access rules after such a batch, and gets nothing more
+	isGuarded bool // it has a batch of an operator, or the reserve, and nothing else is sent until that is answered
+	isBroken  bool // it does not have its access rules or its limit after such a batch, and gets nothing more
 }
 
 // start starts davd. In a process group of its own it does not get the interrupts of a terminal.
@@ -83,7 +84,7 @@ func start(config Config) (*process, error) {
 	if err := command.Start(); err != nil {
 		return nil, fmt.Errorf("davd cannot be started: %w", err)
 	}
-	return &process{
+	p := &process{
 		command: command,
 		began:   time.Now(),
 		input:   input,
@@ -91,7 +92,12 @@ func start(config Config) (*process, error) {
 		reader:  bufio.NewReaderSize(output, bufferSize),
 		sent:    make(chan *batch, underWay),
 		gone:    make(chan struct{}),
-	}, nil
+	}
+	if config.Folder == "" {
+		p.hasBodies = true
+		p.allowed = config.allowance() // Over a folder it applies once that is loaded.
+	}
+	return p, nil
 }
 
 // drawn returns how davd is run with what it does not draw itself. Over a folder that is the key of the digests, if the

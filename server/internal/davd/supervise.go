@@ -67,6 +67,7 @@ func (e *Engine) supervise(p *process) {
 		if !e.isClosing() {
 			p.kill()
 		}
+		e.setReaped(p)
 		end := p.wait()
 		lost := e.detach(p, end)
 		if e.isClosing() {
@@ -77,6 +78,13 @@ func (e *Engine) supervise(p *process) {
 		pause = e.config.pauses.after(time.Since(began), pause)
 		p = e.restart(&pause, answered)
 	}
+}
+
+// setReaped says that the number of a process may soon be that of another one.
+func (e *Engine) setReaped(p *process) {
+	e.mu.Lock()
+	p.isReaped = true
+	e.mu.Unlock()
 }
 
 // latestKept returns the number of the last batch that was kept in the folder for sure, if it was this one before davd

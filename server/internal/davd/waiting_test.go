@@ -162,7 +162,7 @@ func TestMemoryIsLimited(t *testing.T) {
 		t.Fatal(err)
 	}
 	defer closeSoon(t, engine)
-	awaitLog(t, said, "65537") // KiB, rounded up
+	awaitLog(t, said, "61441") // KiB, rounded up, without the reserve
 }
 
 func TestDavdIsInAProcessGroupOfItsOwn(t *testing.T) {
