@@ -29,6 +29,7 @@ const (
 // A process is a running davd.
 type process struct {
 	command *exec.Cmd
+	said    *lineWriter // its standard error
 	input   io.WriteCloser
 	writer  *bufio.Writer
 	reader  *bufio.Reader
@@ -72,7 +73,8 @@ func start(config Config) (*process, error) {
 	}
 	command := config.command(program)
 	command.SysProcAttr = &syscall.SysProcAttr{Setpgid: true}
-	command.Stderr = &lineWriter{log: config.Log}
+	said := &lineWriter{log: config.Log}
+	command.Stderr = said
 	input, err := command.StdinPipe()
 	if err != nil {
 		return nil, fmt.Errorf("davd cannot be started: %w", err)
@@ -86,6 +88,7 @@ func start(config Config) (*process, error) {
 	}
 	p := &process{
 		command: command,
+		said:    said,
 		began:   time.Now(),
 		input:   input,
 		writer:  bufio.NewWriterSize(input, bufferSize),
@@ -132,7 +135,9 @@ func (p *process) kill() {
 // wait waits until davd has ended, and says how. Nobody may read its output any more.
 func (p *process) wait() error {
 	p.input.Close()
-	return p.command.Wait()
+	end := p.command.Wait()
+	p.said.end()
+	return end
 }
 
 // write writes a batch.
@@ -224,7 +229,7 @@ func latest(one, other time.Time) time.Time {
 // longestLine is how many bytes of a line are logged together.
 const longestLine = 4096
 
-// A lineWriter logs each line that davd writes to its standard error.
+// A lineWriter logs each line that davd writes to its standard error. It keeps at most longestLine bytes.
 type lineWriter struct {
 	log  *log.Logger
 	rest []byte
@@ -241,4 +246,12 @@ func (w *lineWriter) Write(p []byte) (int, error) {
 		w.log.Printf("davd says: %q", line)
 		w.rest = rest
 	}
+}
+
+// end logs a last line that has no line end. Nothing is written any more.
+func (w *lineWriter) end() {
+	if len(w.rest) > 0 {
+		w.log.Printf("davd says: %q", w.rest)
+	}
+	w.rest = nil
 }
