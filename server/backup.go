@@ -8,6 +8,7 @@ import (
 	"time"
 
 	"davserve/internal/backup"
+	"davserve/internal/davd"
 )
 
 // ErrNoFolder says that a handler without a folder has nothing that a backup could have.
@@ -41,17 +42,23 @@ func (h *Handler) Backup(ctx context.Context, w io.Writer) error {
 	}
 	h.options.Log.Printf("a backup begins: requests have waited %v for the copy of the database", waited.Round(time.Millisecond))
 	archive := tar.NewWriter(w)
-	err = snapshot.Write(archive, func() error {
+	if err := writeAndEnd(ctx, archive, snapshot, running); err != nil {
+		return err
+	}
+	return archive.Close()
+}
+
+// writeAndEnd writes a snapshot to an archive, and then ends the backup, also if the writer of the archive panics.
+func writeAndEnd(ctx context.Context, archive *tar.Writer, snapshot *backup.Snapshot, running *davd.Backup) (err error) {
+	defer func() {
+		if ended := running.End(); err == nil {
+			err = ended // Only now it is known that davd has overwritten nothing.
+		}
+	}()
+	return snapshot.Write(archive, func() error {
 		if err := running.Check(); err != nil {
 			return err
 		}
 		return ctx.Err()
 	})
-	if ended := running.End(); err == nil {
-		err = ended // Only now it is known that davd has overwritten nothing.
-	}
-	if err != nil {
-		return err
-	}
-	return archive.Close()
 }

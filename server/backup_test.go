@@ -112,3 +112,20 @@ func TestABackupThatFailsHasEnded(t *testing.T) {
 		}
 	}
 }
+
+func TestABackupWhoseWriterPanicsHasEnded(t *testing.T) {
+	handler := startHandler(t, Options{Folder: t.TempDir()})
+	put(t, handler, "/a", "this is a file")
+	func() {
+		defer func() {
+			if recovered := recover(); recovered != "a wrong index" {
+				t.Errorf("recovered: %v", recovered)
+			}
+		}()
+		handler.Backup(context.Background(), writer(func([]byte) (int, error) { panic("a wrong index") }))
+	}()
+	put(t, handler, "/a", "the server goes on")
+	if err := handler.Backup(context.Background(), io.Discard); err != nil {
+		t.Errorf("the next backup: %v", err)
+	}
+}

@@ -40,7 +40,10 @@ func (h *Handler) check(w http.ResponseWriter, r *http.Request) {
 		http.Error(w, "the query has no rate in bytes a second", http.StatusBadRequest)
 		return
 	}
-	h.serving.Add(1)
+	if err := h.enter(); err != nil {
+		http.Error(w, err.Error(), statusOf(err))
+		return
+	}
 	defer h.serving.Done()
 	lines := json.NewEncoder(w)
 	write := func(event CheckEvent) {

@@ -13,10 +13,12 @@ import (
 	"log"
 	"net"
 	"net/http"
+	"net/http/httptest"
 	"os"
 	"path/filepath"
 	"strings"
 	"sync"
+	"sync/atomic"
 	"syscall"
 	"testing"
 	"time"
@@ -369,5 +371,68 @@ func TestListen(t *testing.T) {
 		t.Errorf("the longest path: %v", err)
 	} else {
 		longest.Close()
+	}
+}
+
+func TestNothingBeginsOnceTheServerIsClosed(t *testing.T) {
+	begun := func(context.Context, io.Writer) error { t.Error("a backup begins"); return nil }
+	f := start(t, context.Background(), source(begun))
+	if err := f.server.Close(soon(t)); err != nil {
+		t.Fatal(err)
+	}
+	for _, url := range []string{host + backupPath, host + filesPath + "?rate=0"} {
+		recorder := httptest.NewRecorder() // A request that arrived before, and whose handler runs only now.
+		f.server.handler.ServeHTTP(recorder, httptest.NewRequest("POST", url, nil))
+		if recorder.Code != 503 || recorder.Body.String() != "the server ends\n" {
+			t.Errorf("POST %s: %d, %q", url, recorder.Code, recorder.Body)
+		}
+	}
+	if state := f.server.handler.state; state.State != "none" {
+		t.Errorf("the state is %+v", state)
+	}
+}
+
+// The race detector sees whether a backup is counted while Close waits for those under way.
+func TestABackupMayArriveWhileTheServerIsClosed(t *testing.T) {
+	for i := 0; i < 50; i++ {
+		var isClosed atomic.Bool
+		f := start(t, context.Background(), source(func(context.Context, io.Writer) error {
+			if isClosed.Load() {
+				t.Error("a backup is under way after Close")
+			}
+			return nil
+		}))
+		var group sync.WaitGroup
+		for k := 0; k < 4; k++ {
+			group.Add(1)
+			go func() {
+				defer group.Done()
+				f.server.handler.ServeHTTP(httptest.NewRecorder(), httptest.NewRequest("POST", host+backupPath, nil))
+			}()
+		}
+		if err := f.server.Close(soon(t)); err != nil {
+			t.Error(err)
+		}
+		isClosed.Store(true)
+		group.Wait()
+	}
+}
+
+func TestABackupThatPanicsHasEnded(t *testing.T) {
+	backups := 0
+	f := start(t, context.Background(), source(func(ctx context.Context, w io.Writer) error {
+		if backups++; backups == 1 {
+			panic("a wrong index")
+		}
+		return whole(ctx, w)
+	}))
+	if err := f.fetch(t, soon(t)); err == nil {
+		t.Error("the backup is whole")
+	}
+	if state := f.state(t); state.State != "failed" || state.Error != errBroken.Error() || state.Ended == nil {
+		t.Errorf("after a panic: %+v", state)
+	}
+	if err := f.fetch(t, soon(t)); err != nil {
+		t.Errorf("the next backup: %v", err)
 	}
 }

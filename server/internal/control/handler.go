@@ -18,6 +18,9 @@ import (
 // backupPath is the path of the backups.
 const backupPath = "/backup"
 
+// errBroken says that what a command does has panicked.
+var errBroken = errors.New("the server failed in the middle of it")
+
 // A Source is what an operator gives commands to, as a davserve.Handler is.
 type Source interface {
 	// Backup writes a backup as a tar archive. If it fails before it writes anything, the error says why none was begun.
@@ -52,10 +55,11 @@ type State struct {
 type Handler struct {
 	source  Source
 	log     *log.Logger
-	serving sync.WaitGroup // the backups and checks
+	serving sync.WaitGroup // the backups and checks; none is added once closing is set
 
-	mu    sync.Mutex
-	state State
+	mu      sync.Mutex
+	closing bool
+	state   State
 }
 
 // NewHandler returns a handler of the commands to a source.
@@ -111,18 +115,14 @@ func (h *Handler) show(w http.ResponseWriter) {
 
 // backup answers with a backup. One that fails in the middle is broken off: the chunk that ends a response is not sent.
 func (h *Handler) backup(w http.ResponseWriter, r *http.Request) {
-	if !h.begin() {
-		http.Error(w, davd.ErrInBackup.Error(), http.StatusConflict)
+	if err := h.begin(); err != nil {
+		http.Error(w, err.Error(), statusOf(err))
 		return
 	}
 	defer h.serving.Done()
 	w.Header().Set("Content-Type", "application/x-tar")
 	archive := &counter{writer: w}
-	err := h.source.Backup(r.Context(), archive)
-	if err != nil && r.Context().Err() != nil {
-		err = reasonOf(r.Context())
-	}
-	h.end(archive.count, err)
+	err := h.write(r.Context(), archive)
 	switch {
 	case err != nil && archive.count > 0:
 		panic(http.ErrAbortHandler)
@@ -131,17 +131,49 @@ func (h *Handler) backup(w http.ResponseWriter, r *http.Request) {
 	}
 }
 
-// begin reports whether no backup is under way, and counts one if so.
-func (h *Handler) begin() bool {
+// write writes a backup. However that ends, also by a panic, the next one may begin.
+func (h *Handler) write(ctx context.Context, archive *counter) (err error) {
+	err = errBroken
+	defer func() { h.end(archive.count, err) }()
+	err = h.source.Backup(ctx, archive)
+	if err != nil && ctx.Err() != nil {
+		err = reasonOf(ctx)
+	}
+	return err
+}
+
+// begin counts a backup as under way, or returns why it may not begin.
+func (h *Handler) begin() error {
 	h.mu.Lock()
 	defer h.mu.Unlock()
-	if h.state.State == "running" {
-		return false
+	switch {
+	case h.closing:
+		return errEnds
+	case h.state.State == "running":
+		return davd.ErrInBackup
 	}
 	now := time.Now().UTC()
 	h.state = State{State: "running", Began: &now}
 	h.serving.Add(1)
-	return true
+	return nil
+}
+
+// enter counts a check as under way, or returns why it may not begin.
+func (h *Handler) enter() error {
+	h.mu.Lock()
+	defer h.mu.Unlock()
+	if h.closing {
+		return errEnds
+	}
+	h.serving.Add(1)
+	return nil
+}
+
+// close lets no further backup and no further check begin.
+func (h *Handler) close() {
+	h.mu.Lock()
+	h.closing = true
+	h.mu.Unlock()
 }
 
 // end says how a backup ended.
@@ -170,7 +202,7 @@ func statusOf(err error) int {
 		return http.StatusConflict
 	case errors.Is(err, davd.ErrFull), errors.Is(err, syscall.ENOSPC):
 		return http.StatusInsufficientStorage
-	case errors.Is(err, davd.ErrDown), errors.Is(err, davd.ErrClosed), errors.Is(err, davd.ErrLost):
+	case errors.Is(err, davd.ErrDown), errors.Is(err, davd.ErrClosed), errors.Is(err, davd.ErrLost), errors.Is(err, errEnds):
 		return http.StatusServiceUnavailable
 	}
 	return http.StatusInternalServerError

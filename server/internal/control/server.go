@@ -49,6 +49,7 @@ func Serve(ctx context.Context, listener net.Listener, source Source, stall time
 // Close breaks off a backup and a check that are under way, waits until davd knows of their end or ctx is done, and removes
 // the socket.
 func (s *Server) Close(ctx context.Context) error {
+	s.handler.close() // net/http does not wait for a request that has arrived.
 	s.cancel()
 	err := s.http.Close()
 	ended := make(chan struct{})

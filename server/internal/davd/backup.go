@@ -28,14 +28,19 @@ func (e *Engine) StartBackup(ctx context.Context, between func() error) (*Backup
 	if _, ok := reply.(frame.Done); err == nil && !ok {
 		err = fmt.Errorf("davd began a backup with a reply %T", reply)
 	}
-	b := &Backup{engine: e, process: c.sentTo}
+	b, hasBegun := &Backup{engine: e, process: c.sentTo}, false
+	defer func() {
+		if !hasBegun { // between may also have panicked.
+			b.End()
+		}
+	}()
 	if err == nil {
 		err = b.rest(ctx, between)
 	}
 	if err != nil {
-		b.End()
 		return nil, err
 	}
+	hasBegun = true
 	return b, nil
 }
 

@@ -114,6 +114,25 @@ func TestABackupThatCannotBeginHasEnded(t *testing.T) {
 	}
 }
 
+func TestABackupWhosePausePanicsHasEnded(t *testing.T) {
+	engine, folder, _ := startOver(t, "sound", quickOver)
+	func() {
+		defer func() {
+			if recovered := recover(); recovered != "a wrong index" {
+				t.Errorf("recovered: %v", recovered)
+			}
+		}()
+		engine.StartBackup(soon(t), func() error { panic("a wrong index") })
+	}()
+	if folder.get("backup") != 0 {
+		t.Error("davd does not know of the end")
+	}
+	doChange(t, engine)
+	if err := startBackup(t, engine, nothing).End(); err != nil {
+		t.Errorf("End of the next: %v", err)
+	}
+}
+
 func TestABackupIsLostWithItsDavd(t *testing.T) {
 	engine, _, _ := startOver(t, "sound", quickOver)
 	_, err := engine.StartBackup(soon(t), func() error { kill(t, engine); return nil })
