@@ -58,6 +58,7 @@ func New(ctx context.Context, options Options) (*Handler, error) {
 		Rights:  options.Rights,
 		Log:     options.Log,
 
+		HangTimeout:    options.HangTimeout,
 		MaxClockChange: options.MaxClockChange,
 		Machine:        options.machine,
 	})

@@ -12,6 +12,7 @@ import (
 	"time"
 
 	"davserve/internal/clock"
+	"davserve/internal/davd"
 )
 
 // Options say how a Handler serves. The zero value of each field but Davd is a usable default.
@@ -72,10 +73,15 @@ type Options struct {
 	// LeastRate is how many bytes a second a client must send of a body, on average, once it has let the server wait for
 	// StallTimeout in all. 0: it must send something within each StallTimeout.
 	LeastRate int64
+	// HangTimeout is how long davd may stand still with a request: it does not run, and waits neither for a processor nor for
+	// a disk, as when somebody has stopped it. Then it is killed and started again. 0: two minutes. On other systems than
+	// Linux it is not killed.
+	HangTimeout time.Duration
 	// MaxClockChange is how far the clock of the machine may be from the last time of a folder: New fails if it is further
 	// away. A clock that jumps further while the handler serves is not followed. 0: ten years.
 	MaxClockChange time.Duration
-	// Log gets a line when davd ends, a response breaks off, or the clock of the machine jumps. Nil: the standard logger.
+	// Log gets a line when davd hangs or ends, a response breaks off, or the clock of the machine jumps. Nil: the standard
+	// logger.
 	Log *log.Logger
 
 	machine func() clock.Reading // the clocks of the machine; nil: those of this one
@@ -91,7 +97,8 @@ const (
 	defaultMaxLock      = 10 * time.Minute
 	defaultStallTimeout = time.Minute
 
-	leastMemory = 16 << 20 // a davd that cannot load itself is ended by a signal, and cannot say why
+	leastHang   = time.Second // a davd that waits for the rest of a batch stands still, too
+	leastMemory = 16 << 20    // a davd that cannot load itself is ended by a signal, and cannot say why
 )
 
 // complete returns the options with their defaults, or says which one is wrong.
@@ -120,6 +127,9 @@ func (o Options) complete() (Options, error) {
 	if o.ClientShare < 0 || o.ClientShare > 100 {
 		return o, fmt.Errorf("the share of a client is not 1 to 100 percent: %d", o.ClientShare)
 	}
+	if o.HangTimeout != 0 && o.HangTimeout < leastHang {
+		return o, fmt.Errorf("davd would be killed after standing still for %v: at least %v", o.HangTimeout, leastHang)
+	}
 	if o.MaxLock < 0 || o.StallTimeout < 0 || o.MaxClockChange < 0 {
 		return o, errors.New("a time is negative")
 	}
@@ -131,6 +141,7 @@ func (o Options) complete() (Options, error) {
 	setDefault(&o.MaxUploads, o.defaultUploads())
 	setDefault(&o.MaxLock, defaultMaxLock)
 	setDefault(&o.StallTimeout, defaultStallTimeout)
+	setDefault(&o.HangTimeout, davd.DefaultHangTimeout)
 	setDefault(&o.MaxClockChange, clock.MaxChange)
 	if o.Log == nil {
 		o.Log = log.Default()

@@ -136,6 +136,18 @@ def stands_still(starter: Starter):
     server.stop()
 
 
+@GROUP.check("a davd that is stopped is killed after -hang-timeout, and the log says so")
+def hangs(starter: Starter):
+    server = starter.start("-hang-timeout", "2s")
+    child = server.davd()
+    os.kill(child, signal.SIGSTOP)
+    server.ask("OPTIONS", "/", status=200, seconds=30)
+    expect("whether it is another process", server.davd() != child, True)
+    lines = [it for it in server.log().splitlines() if "has not run for 2s" in it]
+    expect("how many lines say that it hangs", len(lines), 1)
+    server.stop()
+
+
 @GROUP.check("locks are lost with it, and their tokens do not count again")
 def locks(starter: Starter):
     server = starter.start()

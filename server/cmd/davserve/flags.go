@@ -14,6 +14,7 @@ import (
 
 	"davserve"
 	"davserve/internal/clock"
+	"davserve/internal/davd"
 	"davserve/internal/size"
 )
 
@@ -207,6 +208,7 @@ func (c *config) addLimits(flags *flag.FlagSet) {
 	flags.DurationVar(&c.headerTimeout, "header-timeout", 20*time.Second, "time for the header of a request")
 	flags.DurationVar(&c.idleTimeout, "idle-timeout", 2*time.Minute, "time until an idle connection is closed")
 	flags.DurationVar(&o.StallTimeout, "stall-timeout", time.Minute, "time that a body or a response may wait for its client")
+	flags.DurationVar(&o.HangTimeout, "hang-timeout", davd.DefaultHangTimeout, "time until a davd that stands still is killed")
 	flags.DurationVar(&c.shutdownTimeout, "shutdown-timeout", 10*time.Second, "time for requests under way at the end")
 }
 
@@ -242,6 +244,8 @@ func (c *config) check(rest []string) error {
 		return fmt.Errorf("-host: %w", c.hosts.check(checkName))
 	case c.options.MaxClockChange <= 0:
 		return errors.New("-max-clock-change is more than 0")
+	case c.options.HangTimeout < time.Second:
+		return errors.New("-hang-timeout is at least one second")
 	case c.options.MaxLock < time.Second:
 		return errors.New("-max-lock is at least one second")
 	}

@@ -32,6 +32,8 @@ func TestParseRefuses(t *testing.T) {
 		{"-max-handshakes 1000001", "0 to 1000000"},
 		{"-idle-timeout 0s", "more than 0"},
 		{"-stall-timeout -1s", "more than 0"},
+		{"-hang-timeout 0s", "at least one second"},
+		{"-hang-timeout -1s", "at least one second"},
 		{"-max-segments 0", "at least 1"},
 		{"-max-lock 10ms", "at least one second"},
 		{"-max-clock-change 0", "more than 0"},

@@ -71,6 +71,9 @@ type Config struct {
 	Memory  int64    // limit of its address space in bytes, over a folder once it is loaded; 0: none
 	Rights  string   // the text of the access rules, in TOML; empty: none, and each principal may do everything
 	Log     *log.Logger
+	// HangTimeout is how long davd may stand still although it has something to do, until it is killed and started again.
+	// 0: DefaultHangTimeout. On other systems than Linux it is not killed.
+	HangTimeout time.Duration
 	// MaxClockChange is how far the clock of the machine may be from the last time of the folder at a start, and how far
 	// away it is followed while davd runs. 0: clock.MaxChange.
 	MaxClockChange time.Duration
@@ -136,6 +139,9 @@ type Engine struct {
 func Start(ctx context.Context, config Config) (*Engine, error) {
 	if config.pauses == (pauses{}) {
 		config.pauses = defaultPauses
+	}
+	if config.HangTimeout == 0 {
+		config.HangTimeout = DefaultHangTimeout
 	}
 	if config.Folder != "" {
 		// One part for all davds: what clients have read from one, they may go on to read from the next.
@@ -221,7 +227,8 @@ func (e *Engine) Close(ctx context.Context) error {
 // ErrKept if its batch was kept, and otherwise ErrLost or ErrFull. If the next davd is not in service in time, it is
 // ErrUnknown.
 //
-// When ctx is done, Do returns its error, but it waits for the reply to a frame that was sent and changes something.
+// When ctx is done, Do returns its error, but it waits for the reply to a frame that was sent and changes something, also
+// while that is written. A davd that stands still ends this wait: it is killed after the HangTimeout of the Config.
 func (e *Engine) Do(ctx context.Context, f frame.Frame) (frame.Reply, error) {
 	return e.do(ctx, newCall(f))
 }
@@ -281,7 +288,7 @@ func decode(b []byte) (frame.Reply, error) {
 	return reply, nil
 }
 
-// submit queues a call, and writes a batch if nobody else does.
+// submit queues a call, and has a batch written if nobody writes one. It does not wait for that: davd may not read.
 func (e *Engine) submit(c *call) {
 	e.mu.Lock()
 	if err := e.refusal(c); err != nil {
@@ -299,7 +306,7 @@ func (e *Engine) submit(c *call) {
 	batch := e.next()
 	e.mu.Unlock()
 	if batch != nil {
-		e.write(batch)
+		go e.write(batch)
 	}
 }
 

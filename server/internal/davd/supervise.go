@@ -62,6 +62,7 @@ func (e *Engine) supervise(p *process) {
 	for p != nil {
 		began := time.Now()
 		go e.watch(p)
+		go e.watchHang(p)
 		err := e.read(p)
 		answered = latestKept(answered, p)
 		if !e.isClosing() {

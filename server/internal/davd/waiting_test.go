@@ -241,3 +241,33 @@ func TestAPieceThatWaitsIsNotForTheNextDavd(t *testing.T) {
 		t.Errorf("the piece: %v", err)
 	}
 }
+
+func TestAContextEndsTheWaitForAReadThatIsWritten(t *testing.T) {
+	t.Setenv(behavior, "")
+	engine, err := Start(context.Background(), Config{
+		Program: "/bin/sh", Args: []string{"-c", "exec sleep 600"}, Log: (&logged{}).logger(),
+	})
+	if err != nil {
+		t.Fatal(err)
+	}
+	ctx, cancel := context.WithTimeout(context.Background(), 50*time.Millisecond)
+	defer cancel()
+	t.Cleanup(func() { engine.Close(ctx) })
+	results := make(chan error, 4)
+	for i := 0; i < cap(results); i++ { // The first ones are written, and fill the pipe. The others wait.
+		go func() {
+			_, err := engine.Do(ctx, frame.Read{Path: "/" + strings.Repeat("x", 1<<20)})
+			results <- err
+		}()
+	}
+	for i := 0; i < cap(results); i++ {
+		select {
+		case err := <-results:
+			if !errors.Is(err, context.DeadlineExceeded) {
+				t.Errorf("a read: %v", err)
+			}
+		case <-time.After(5 * time.Second):
+			t.Fatal("a read is still waiting for a davd that does not read")
+		}
+	}
+}
