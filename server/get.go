@@ -8,6 +8,7 @@ import (
 	"net/http"
 	"strconv"
 	"strings"
+	"sync"
 	"time"
 
 	"davserve/internal/davd"
@@ -38,7 +39,14 @@ func (h *Handler) get(w http.ResponseWriter, r *http.Request) error {
 	return fmt.Errorf("davd answered a read with a reply %T", reply)
 }
 
-// serveFile answers with the file of which the first part was read, when davd had been started so many times.
+// errChanged says that a file has changed while it was read, or may have, because another davd has it.
+var errChanged = errors.New("the file has changed")
+
+// fileFields are the header fields about a file that a response of another status does not have.
+var fileFields = []string{"Accept-Ranges", "Content-Range", "Content-Security-Policy", "Etag", "Last-Modified"}
+
+// serveFile answers with the file of which the first part was read, when davd had been started so many times. It returns an
+// error if nothing was written yet.
 func (h *Handler) serveFile(
 	w http.ResponseWriter, r *http.Request, read frame.Read, first *frame.Part, started uint64,
 ) error {
@@ -69,9 +77,18 @@ func (h *Handler) serveFile(
 		ctx: r.Context(), engine: h.engine, started: started,
 		read: read, length: int64(first.Length), bytes: first.Bytes,
 	}
-	http.ServeContent(bufferedWriter{w}, r, "", modified, file)
-	if file.err != nil {
-		h.options.Log.Printf("%s %q broke off: %v", r.Method, r.URL.EscapedPath(), file.err)
+	late := &lateWriter{ResponseWriter: w}
+	http.ServeContent(late, r, "", modified, file)
+	switch err := file.failure(); {
+	case err == nil:
+		late.end()
+	case !late.hasBegun:
+		for _, name := range fileFields {
+			header.Del(name)
+		}
+		return err
+	default:
+		h.options.Log.Printf("%s %q broke off: %v", r.Method, r.URL.EscapedPath(), err)
 		panic(http.ErrAbortHandler) // So that the client does not take a part for the whole.
 	}
 	return nil
@@ -104,10 +121,34 @@ func rangeFor(wanted string, length uint64) string {
 	return "bytes=" + strings.Join(kept, ",")
 }
 
-// A bufferedWriter is a response that is no io.ReaderFrom. net/http sends the header and the first bytes of a body
-// together then, and otherwise one after the other.
-type bufferedWriter struct {
+// A lateWriter is a response whose header is written with the first bytes of its body, or by end. Before that it can still
+// become another response. It is no io.ReaderFrom: net/http sends the header and the first bytes together then, and
+// otherwise one after the other.
+type lateWriter struct {
 	http.ResponseWriter
+	status   int // 0: not known yet
+	hasBegun bool
+}
+
+// WriteHeader implements http.ResponseWriter.
+func (w *lateWriter) WriteHeader(status int) {
+	if w.status == 0 {
+		w.status = status
+	}
+}
+
+// Write implements http.ResponseWriter.
+func (w *lateWriter) Write(p []byte) (int, error) {
+	w.end()
+	return w.ResponseWriter.Write(p)
+}
+
+// end writes the header if it is not written yet.
+func (w *lateWriter) end() {
+	if !w.hasBegun && w.status != 0 {
+		w.ResponseWriter.WriteHeader(w.status)
+	}
+	w.hasBegun = true
 }
 
 // runsScripts reports whether a browser may run scripts in a file of this type. They would act with the rights of the
@@ -164,7 +205,9 @@ type file struct {
 	place   int64
 	start   int64 // the place of bytes
 	bytes   []byte
-	err     error // why a piece could not be read
+
+	mu  sync.Mutex
+	err error // why a piece could not be read
 }
 
 // Read implements io.Reader.
@@ -173,8 +216,9 @@ func (f *file) Read(p []byte) (int, error) {
 		return 0, io.EOF
 	}
 	if f.place < f.start || f.place >= f.start+int64(len(f.bytes)) {
-		if f.err = f.load(); f.err != nil {
-			return 0, f.err
+		if err := f.load(); err != nil {
+			f.fail(err)
+			return 0, err
 		}
 	}
 	n := copy(p, f.bytes[f.place-f.start:])
@@ -186,15 +230,38 @@ func (f *file) Read(p []byte) (int, error) {
 func (f *file) load() error {
 	f.read.Offset = uint64(f.place)
 	reply, err := f.engine.Do(f.ctx, f.read)
-	if err != nil {
+	var failed *davd.StatusError
+	switch {
+	case errors.As(err, &failed) && failed.Status == http.StatusPreconditionFailed:
+		return f.changed() // It has another entity tag.
+	case err != nil:
 		return fmt.Errorf("the bytes from %d on: %w", f.place, err)
 	}
 	part, ok := reply.(frame.Part)
 	if !ok || int64(part.Length) != f.length || len(part.Bytes) == 0 || f.engine.Started() != f.started {
-		return fmt.Errorf("the file has changed before byte %d was read", f.place)
+		return f.changed()
 	}
 	f.bytes, f.start = part.Bytes, f.place
 	return nil
+}
+
+// changed returns the error of a file that has changed.
+func (f *file) changed() error {
+	return fmt.Errorf("%w before byte %d was read", errChanged, f.place)
+}
+
+// fail keeps why a piece could not be read.
+func (f *file) fail(err error) {
+	f.mu.Lock()
+	defer f.mu.Unlock()
+	f.err = err
+}
+
+// failure returns why a piece could not be read, or nil. Of several ranges, net/http may still read another one.
+func (f *file) failure() error {
+	f.mu.Lock()
+	defer f.mu.Unlock()
+	return f.err
 }
 
 // Seek implements io.Seeker.

@@ -217,7 +217,7 @@ func (h *Handler) fail(w http.ResponseWriter, r *http.Request, err error) {
 		h.failWith(w, r, failed.Status)
 	case errors.Is(err, davd.ErrKept), errors.Is(err, davd.ErrUnknown):
 		panic(http.ErrAbortHandler) // Any response could be wrong.
-	case errors.Is(err, share.ErrBusy):
+	case errors.Is(err, share.ErrBusy), errors.Is(err, errChanged):
 		w.Header().Set("Retry-After", "1")
 		h.failWith(w, r, http.StatusServiceUnavailable)
 	case errors.Is(err, davd.ErrFull):

@@ -225,7 +225,7 @@ func (e *Engine) Close(ctx context.Context) error {
 //
 // If davd ends meanwhile, a frame that only reads is sent once more, to the next davd. Over a folder any other frame is
 // ErrKept if its batch was kept, and otherwise ErrLost or ErrFull. If the next davd is not in service in time, it is
-// ErrUnknown.
+// ErrUnknown, and one that only reads is ErrLost.
 //
 // When ctx is done, Do returns its error, but it waits for the reply to a frame that was sent and changes something, also
 // while that is written. A davd that stands still ends this wait: it is killed after the HangTimeout of the Config.

@@ -191,10 +191,14 @@ func (e *Engine) giveUp(o *outage) {
 	e.reportCalls("davd is not back, and nobody knows whether it has done %d frames: %q", unknown)
 }
 
-// failOutage fails the calls that were sent before an outage, because nobody knows whether they were done. It returns
-// what they are. It is called with e.mu held.
+// failOutage fails the calls that were sent before an outage. Of those that change something nobody knows whether they were
+// done. It returns what these are. It is called with e.mu held.
 func (e *Engine) failOutage() (unknown []string) {
 	for _, c := range e.endOutage() {
+		if c.reads {
+			c.finish(nil, ErrLost)
+			continue
+		}
 		unknown = append(unknown, c.what)
 		c.finish(nil, ErrUnknown)
 	}

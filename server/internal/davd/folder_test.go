@@ -363,6 +363,39 @@ func TestNobodyKnowsWhileDavdIsNotBack(t *testing.T) {
 	}
 }
 
+func TestAReadIsLostWhileDavdIsNotBack(t *testing.T) {
+	short := quickOver
+	short.patience = 100 * time.Millisecond
+	engine, _, said := startOver(t, "sound, is mute", short)
+	process := engine.process
+	signal := process.command.Process.Signal
+	if err := signal(syscall.SIGSTOP); err != nil {
+		t.Fatal(err)
+	}
+	calls, release := hold(t, engine, frame.Held{}, frame.Read{Path: "/a"}, change)
+	release()
+	process.kill()
+	for i, want := range []error{ErrLost, ErrLost, ErrUnknown} {
+		if <-calls[i].done; calls[i].err != want {
+			t.Errorf("%s: %v, want %v", calls[i].what, calls[i].err, want)
+		}
+	}
+	awaitLog(t, said, `nobody knows whether it has done 1 frames: "MKCOL /d/"`)
+}
+
+func TestCloseLosesAReadWhileDavdIsNotBack(t *testing.T) {
+	engine, _, _ := startOver(t, "ends, is mute", quickOver)
+	calls, release := hold(t, engine, frame.Held{}, change)
+	release()
+	waitUntil(t, func() bool { return engine.outage != nil }, engine)
+	closeSoon(t, engine)
+	for i, want := range []error{ErrLost, ErrUnknown} {
+		if <-calls[i].done; calls[i].err != want {
+			t.Errorf("%s: %v, want %v", calls[i].what, calls[i].err, want)
+		}
+	}
+}
+
 func TestCallsThatAreNotSentWaitAsLong(t *testing.T) {
 	short := quickOver
 	short.patience = 100 * time.Millisecond
