@@ -14,6 +14,9 @@ import (
 // ErrInCheck says that a check is under way.
 var ErrInCheck = errors.New("another check is under way")
 
+// errBroken says that a check has panicked.
+var errBroken = errors.New("the server failed in the middle of it")
+
 // ErrNothingOnDisk says that a handler without a folder has no file on a disk that could be damaged.
 var ErrNothingOnDisk = errors.New("without a folder there is nothing to check")
 
@@ -82,7 +85,7 @@ func newChecks() *checks {
 //
 // The state that it returns has what was found. If the error is not nil, the check has ended early: because ctx is done, or
 // davd does not answer. What is made, removed or moved meanwhile may be read or not.
-func (h *Handler) CheckFiles(ctx context.Context, options CheckOptions) (CheckState, error) {
+func (h *Handler) CheckFiles(ctx context.Context, options CheckOptions) (state CheckState, err error) {
 	if h.options.Folder == "" {
 		return CheckState{State: "none"}, ErrNothingOnDisk
 	}
@@ -95,6 +98,11 @@ func (h *Handler) CheckFiles(ctx context.Context, options CheckOptions) (CheckSt
 		return h.checks.state(), err
 	}
 	h.options.Log.Print("a check of all files begins")
+	err = errBroken
+	defer func() { // The next check may begin, also after a panic.
+		state = h.checks.end(err)
+		h.options.Log.Print(state.summary())
+	}()
 	err = scrub.Run(ctx, scrub.Options{
 		Store: operator, Path: h.options.Prefix + "/", Rate: options.Rate, Progress: progress,
 		Tick: h.checks.ticker(options.Progress),
@@ -107,8 +115,6 @@ func (h *Handler) CheckFiles(ctx context.Context, options CheckOptions) (CheckSt
 			}
 		},
 	})
-	state := h.checks.end(err)
-	h.options.Log.Print(state.summary())
 	return state, err
 }
 

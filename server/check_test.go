@@ -195,3 +195,20 @@ func TestACheckOfAClosedHandlerEnds(t *testing.T) {
 		t.Errorf("%+v, %v", state, err)
 	}
 }
+
+func TestACheckThatPanicsHasEnded(t *testing.T) {
+	handler := startHandler(t, Options{Folder: t.TempDir()})
+	put(t, handler, "/a", "this is a file")
+	func() {
+		defer func() {
+			if recovered := recover(); recovered != "a wrong index" {
+				t.Errorf("recovered: %v", recovered)
+			}
+		}()
+		handler.CheckFiles(context.Background(), CheckOptions{Progress: func(CheckState) { panic("a wrong index") }})
+	}()
+	if state := handler.Checked(); state.State != "failed" || state.Error != errBroken.Error() {
+		t.Errorf("after a panic: %+v", state)
+	}
+	found(t, handler)
+}
