@@ -127,15 +127,15 @@ func TestADavdThatWorksIsNotKilled(t *testing.T) {
 
 func TestADavdThatHasNothingToDoIsNotKilled(t *testing.T) {
 	config, _, _ := overFolder(t, "sound", quickOver)
-	const limit = 50 * time.Millisecond
+	const limit = 200 * time.Millisecond
 	engine, said := startHanging(t, limit, config)
 	before := processOf(t, engine)
-	time.Sleep(5 * limit)
+	time.Sleep(2 * limit)
 	signal(t, engine, syscall.SIGSTOP)
-	time.Sleep(5 * limit)
+	time.Sleep(2 * limit)
 	signal(t, engine, syscall.SIGCONT)
 	backup := startBackup(t, engine, func() error { // Requests wait, and davd rests.
-		time.Sleep(5 * limit)
+		time.Sleep(2 * limit)
 		return nil
 	})
 	if err := backup.End(); err != nil || processOf(t, engine) != before {
