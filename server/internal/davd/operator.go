@@ -88,7 +88,7 @@ func (o *Operator) send(ctx context.Context, f frame.Frame) ([]byte, error) {
 }
 
 // mustWait reports whether the first call that waits can be sent only later. A call of an operator changes access rules, and
-// one that frees may be lent the reserve. So it is sent when davd has answered everything, and nothing is sent until it is
+// one that frees may get the reserve. So it is sent when davd has answered everything, and nothing is sent until it is
 // answered. What is held in place of the reserve is sent before everything else. It is called with e.mu held.
 func (e *Engine) mustWait(isLent bool) bool {
 	p := e.process
