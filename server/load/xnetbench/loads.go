@@ -15,7 +15,7 @@ type load struct {
 	serve   func(s *server, count int)
 }
 
-// loads are those of dav_bench, whose names and requests these are. Those of PATCH are missing: the handler has no
+// loads are those of tools/loads.py, whose names and requests these are. Those of PATCH are missing: the handler has no
 // such method.
 var loads = []load{
 	{"mkput", nothing, makeAndPut},
@@ -164,7 +164,7 @@ func findInFiles(body string) func(*server, int) {
 	}
 }
 
-// findInTree sends the field X-Litmus as dav_bench does, whose engine requires it. The handler here does not read it.
+// findInTree sends the field X-Litmus as tools/loads.py does, because davd requires it. The handler here does not read it.
 func findInTree(s *server, count int) {
 	for i := 0; i < 4; i++ {
 		s.find("/src/", findFive, field{"depth", "infinity"}, field{"x-litmus", "props"})

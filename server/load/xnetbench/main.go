@@ -1,7 +1,7 @@
 //go:build ignore
 
-// Xnetbench serves the loads of dav_bench by golang.org/x/net/webdav, to compare with: by its handler, over its own
-// file system and lock system in memory, in this process and without a connection.
+// Xnetbench serves the loads of tools/instructions by golang.org/x/net/webdav, to compare with: by its handler, over its
+// own file system and lock system in memory, in this process and without a connection.
 //
 //	xnetbench LOAD COUNT            prints LOAD COUNT SECONDS REQUESTS_A_SECOND
 //	xnetbench LOAD COUNT serve      serves the load without a clock, and prints LOAD COUNT REQUESTS

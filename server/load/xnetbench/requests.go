@@ -12,7 +12,7 @@ import (
 // content is what a PUT writes.
 var content = bytes.Repeat([]byte("x"), 1024)
 
-// The bodies of requests, as dav_bench has them.
+// The bodies of requests, as tools/loads.py has them.
 const (
 	lockInfo = `<D:lockinfo xmlns:D="DAV:"><D:lockscope><D:exclusive/></D:lockscope>` +
 		`<D:locktype><D:write/></D:locktype></D:lockinfo>`
