@@ -2,6 +2,7 @@
 package logqueue
 
 import (
+	"bytes"
 	"fmt"
 	"io"
 	"sync"
@@ -71,40 +72,44 @@ func (q *Queue) Close(wait time.Duration) {
 func (q *Queue) pass() {
 	defer close(q.done)
 	for {
-		lines, ok := q.take()
+		lines, dropped, ok := q.take()
 		if !ok {
 			return
 		}
-		if _, err := q.to.Write(lines); err != nil {
-			q.lose(lines)
+		if _, err := q.to.Write(withNotice(lines, dropped)); err != nil {
+			q.lose(lines, dropped)
 		}
 	}
 }
 
-// take waits for lines and returns them, with one that says how many were dropped before. It returns false after the end.
-func (q *Queue) take() ([]byte, bool) {
+// withNotice returns the lines, with one that says how many were dropped before, if some were.
+func withNotice(lines []byte, dropped uint64) []byte {
+	if dropped == 0 {
+		return lines
+	}
+	return fmt.Appendf(lines, "%d lines of the log were dropped, because nobody read them in time\n", dropped)
+}
+
+// take waits for lines and returns them, and how many were dropped before. It returns false after the end.
+func (q *Queue) take() (lines []byte, dropped uint64, ok bool) {
 	q.mu.Lock()
 	defer q.mu.Unlock()
 	for len(q.waiting) == 0 && !q.closed {
 		q.changed.Wait()
 	}
-	lines := q.waiting
-	q.waiting = nil
-	if len(lines) > 0 && q.dropped > 0 {
-		lines = append(lines, fmt.Sprintf("%d lines of the log were dropped, because nobody read them in time\n", q.dropped)...)
-		q.dropped = 0
+	lines, q.waiting = q.waiting, nil
+	if len(lines) == 0 {
+		return nil, 0, false
 	}
-	return lines, len(lines) > 0
+	dropped, q.dropped = q.dropped, 0
+	return lines, dropped, true
 }
 
-// lose counts lines that could not be written.
-func (q *Queue) lose(lines []byte) {
+// lose counts lines that could not be written. Nobody was told of those that were dropped before.
+func (q *Queue) lose(lines []byte, dropped uint64) {
 	q.mu.Lock()
 	defer q.mu.Unlock()
-	for _, c := range lines {
-		if c == '\n' {
-			q.dropped++
-			q.total++
-		}
-	}
+	lost := uint64(bytes.Count(lines, []byte("\n")))
+	q.dropped += dropped + lost
+	q.total += lost
 }

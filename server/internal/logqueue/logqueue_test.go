@@ -106,6 +106,9 @@ func TestLinesThatCannotBeWrittenCount(t *testing.T) {
 	close(to.opened)
 	q := New(to, 1000)
 	q.Write([]byte("one\n"))
+	for q.Dropped() == 0 { // So that a line says with the next one how many were dropped. It is lost, too, and is none of them.
+		time.Sleep(time.Millisecond)
+	}
 	q.Write([]byte("two\n"))
 	q.Close(5 * time.Second)
 	if q.Dropped() != 2 {
