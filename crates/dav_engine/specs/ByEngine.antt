@@ -68,7 +68,7 @@ module _ {C F L : Type 0} (see_store : F → Store) where
   -- the file was written for a PUT or, with `partial`, for a PATCH; or memory ran out
   abbrev pub WritesBy : Bool → DavRequest → Option Meta → DavInner C F L → Answer → DavInner C F L → Type 0
   WritesBy partial request found old =
-      StoreWorkBy (PutWork (bodies_by see_store old) partial request found) (PutCut (bodies_by see_store old) partial request found) old
+      StoreWorkBy (PutWork old.profile (bodies_by see_store old) partial request found) (PutCut old.profile (bodies_by see_store old) partial request found) old
 
 module _ {C F L : Type 0} (see_store : F → Store) (see_locks : L → Locks) where
   -- the rules, of the state before the call, were checked to this verdict, and nothing changed except the log (`Judges`)

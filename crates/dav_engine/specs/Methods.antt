@@ -41,8 +41,8 @@ write_method partial =
     record {
       Found = Option Meta;
       rules = λ settings. put_rules settings.facts.bodies partial;
-      Work = λ settings request found. OnStore (PutWork settings.facts.bodies partial request found);
-      Cut = λ settings request found. CutOnStore (PutCut settings.facts.bodies partial request found);
+      Work = λ settings request found. OnStore (PutWork settings.profile settings.facts.bodies partial request found);
+      Cut = λ settings request found. CutOnStore (PutCut settings.profile settings.facts.bodies partial request found);
     }
 
 abbrev pub delete_method : Method

@@ -32,6 +32,7 @@ making_options request =
       append = false;
       size = None;
       checksum = None;
+      media_type = None;
     }
 
 -- the status if an open fails with `NotFound` or `Exists`: 412 if `create` is not set or `create_new` is, else 409 (the parent is not a collection)

@@ -1,12 +1,14 @@
 -- PUT (RFC 9110, section 9.3.4; RFC 4918, section 9.7) and PATCH (RFC 5789, as SabreDAV has it): the body becomes the content of a file, or a part of
 -- it.
 use Rattle.std.specs.Prelude.{◌≡◌, ℕ, nat_eq, true, false, if◌then◌else◌, List, [], ◌∷◌, ◌++◌, length, Option, Some, None, is_some, Bool, not, ◌&&◌, Result, Ok, Err}
-use Rattle.std.specs.Option.{option_map_or}
+use Rattle.std.specs.Option.{option_map, option_map_or}
 use Rattle.std.specs.Result.{result_ok}
 use Rattle.std.specs.FinMap.{get}
 use Rattle.dav_key.specs.Key.{Key}
 use Rattle.dav_resource.specs.Methods.{method_of}
 use Rattle.dav_resource.specs.Errors.{from_fs}
+use Rattle.dav_resource.specs.Profile.{keeps_media_type}
+use Rattle.dav_resource.specs.declared.profile.Profile.{Profile}
 use Rattle.dav_resource.specs.declared.meta.Meta.{Meta}
 use Rattle.dav_resource.specs.declared.meta.OpenOptions.{OpenOptions}
 use Rattle.dav_resource.specs.declared.meta.DavFile.{DavFile}
@@ -23,9 +25,10 @@ use Rattle.dav_resource.specs.declared.error.DavError.TheVariants as dav_errors
 use Rattle.dav_resource.specs.declared.request.ReqBody.{ReqBody}
 use Rattle.dav_resource.specs.declared.request.DavRequest.{DavRequest}
 use Rattle.dav_headers.specs.Body.{checksum_of}
+use Rattle.dav_headers.specs.MediaType.{media_type_in}
 use Rattle.dav_store.specs.Logged.{Logged}
 use Rattle.dav_store.specs.Store.{Store, Contents, Bodies}
-use Rattle.dav_store.specs.Calls.{Call, open_call, file_call, bytes_at, written_at, Seeks, Writes}
+use Rattle.dav_store.specs.Calls.{Call, open_call, opened_types, file_call, bytes_at, written_at, Seeks, Writes}
 use Rattle.dav_messages.specs.Reply.{Answer}
 use Rattle.dav_messages.specs.RequestBody.{body_bytes}
 use Rattle.dav_engine.specs.PutReply.{put_reply}
@@ -76,14 +79,20 @@ put_served request = Some (put_method (method_of request.method))
 
 -- ---- the work
 
--- how the file is opened: it is emptied unless a part is written, and the store gets the length and the checksum that the headers state for the body
-abbrev pub put_options : DavRequest → Target → OpenOptions
-put_options request target =
+-- the media type that the file is to keep: that of the body, if it is the whole file, in a profile in which files keep one
+abbrev pub put_type : Profile → DavRequest → Target → Option (List ℕ)
+put_type profile request target = if keeps_media_type profile && not target.part then media_type_in request.headers else None
+
+-- how the file is opened: it is emptied unless a part is written, and the store gets the length and the checksum that the headers state for the body,
+-- and its media type
+abbrev pub put_options : Profile → DavRequest → Target → OpenOptions
+put_options profile request target =
     record (making_options request) {
       truncate = not target.part;
       append = target.append;
       size = target.stated;
       checksum = checksum_of request.headers;
+      media_type = put_type profile request target;
     }
 
 -- the error of an open that fails; the connection is closed after `misplaced_status`, not after any other error
@@ -114,10 +123,10 @@ look_up_by call meta = Asks call (λ outcome. Passed (if_granted outcome meta))
 
 -- The calls, in order: open the file, seek to the offset (if a part is written), write the bytes (if there are any), flush, and read the metadata,
 -- which is `meta`. A failure of the last call is ignored; any other failure ends the request with its error.
-abbrev pub put_steps : Bodies → DavRequest → Target → Contents → Option Meta → Dialogue (Option Meta)
-put_steps held request target old meta =
+abbrev pub put_steps : Profile → Bodies → DavRequest → Target → Contents → Option Meta → Dialogue (Option Meta)
+put_steps profile held request target old meta =
     let key = request.path.key in
-    needs (open_call old key (put_options request target)) (put_open_error (put_options request target)) (
+    needs (open_call old key (put_options profile request target)) (put_open_error (put_options profile request target)) (
     put_seek target key (
     put_write (new_bytes held request.body) key (
     needs (on_file Flush key) from_fs (
@@ -134,11 +143,12 @@ abbrev pub final_bytes : Target → List ℕ → List ℕ → List ℕ
 final_bytes target body old = if not target.part then body else (if target.append then old ++ body else written_at old target.start body)
 
 -- If the write was granted, the file has its final content. If only the open was granted, it has the content that it was opened with. In both cases
--- no other file or directory and no property changes. If the open was not granted, nothing changes.
-pub record PutLeaves (held : Bodies) (request : DavRequest) (target : Target) (records : List Logged) (old new : Contents) : Type 0 where
+-- no other file or directory and no property changes, and the media types are those after the open. If the open was not granted, nothing changes.
+pub record PutLeaves (profile : Profile) (held : Bodies) (request : DavRequest) (target : Target) (records : List Logged) (old new : Contents) : Type 0 where
   pub untouched : ¬ (WasGranted OpenFile request.path.key records) → new ≡ old
   pub opened : WasGranted OpenFile request.path.key records → ¬ (WasGranted WriteBytes request.path.key records) → IsFileAt request.path.key (opened_bytes target (bytes_at (get old.tree request.path.key))) old new
   pub written : WasGranted WriteBytes request.path.key records → IsFileAt request.path.key (final_bytes target (new_bytes held request.body) (bytes_at (get old.tree request.path.key))) old new
+  pub typed : WasGranted OpenFile request.path.key records → new.types ≡ option_map (opened_types (put_options profile request target) request.path.key (get old.tree request.path.key)) old.types
 
 -- What was found, as the result of a lookup: finding nothing counts as `NotFound`. No other error is needed: after a lookup that failed otherwise,
 -- the rules reject each target that depends on the lookup.
@@ -146,20 +156,20 @@ abbrev pub as_looked : Option Meta → Result Meta FsError
 as_looked (Some meta) = Ok meta
 as_looked None = Err NotFound
 
-pub record PutWork (held : Bodies) (partial : Bool) (request : DavRequest) (found : Option Meta) (old : Contents) (records : List Logged) (answer : Answer) (new : Contents) : Type 0 where
+pub record PutWork (profile : Profile) (held : Bodies) (partial : Bool) (request : DavRequest) (found : Option Meta) (old : Contents) (records : List Logged) (answer : Answer) (new : Contents) : Type 0 where
   pub target : Target
   pub aimed : target_of partial request.headers (as_looked found) ≡ Ok target
-  pub answered : IsAnswered (put_steps held request target old (new.metas request.path.key)) (λ meta reply. reply ≡ put_reply found meta) records answer
-  pub leaves : PutLeaves held request target records old new
+  pub answered : IsAnswered (put_steps profile held request target old (new.metas request.path.key)) (λ meta reply. reply ≡ put_reply found meta) records answer
+  pub leaves : PutLeaves profile held request target records old new
 
 -- Memory ran out: the records are the first calls of the work, none of which ended the request with an error, and their effect stays (`PutLeaves`).
-pub record PutCut (held : Bodies) (partial : Bool) (request : DavRequest) (found : Option Meta) (old : Contents) (records : List Logged) (new : Contents) : Type 0 where
+pub record PutCut (profile : Profile) (held : Bodies) (partial : Bool) (request : DavRequest) (found : Option Meta) (old : Contents) (records : List Logged) (new : Contents) : Type 0 where
   pub target : Target
   pub aimed : target_of partial request.headers (as_looked found) ≡ Ok target
   pub left : Dialogue (Option Meta)
-  pub calls : LeadsTo (put_steps held request target old (new.metas request.path.key)) records left
+  pub calls : LeadsTo (put_steps profile held request target old (new.metas request.path.key)) records left
   pub goes_on : GoesOn left
-  pub leaves : PutLeaves held request target records old new
+  pub leaves : PutLeaves profile held request target records old new
 
 -- ---- the calls on the open file
 

@@ -24,6 +24,7 @@ pub(crate) fn making_options(alloc: Global, request: &DavRequest) -> DavResult<O
         append: false,
         size: None,
         checksum: None,
+        media_type: None,
     })
 }
 

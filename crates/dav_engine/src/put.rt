@@ -8,7 +8,7 @@ ghost use Rattle.dav_engine.specs.Served.{IsServed};
 ghost use Rattle.dav_messages.specs.Reply.{answer_of};
 ghost use Rattle.dav_headers.specs.Body.{checksum_of};
 ghost use Rattle.dav_engine.specs.Target.{target_of};
-ghost use Rattle.dav_engine.specs.Put.{put_rules, put_served, is_patch as is_patch_method, as_looked, put_options as options_of_put, put_open_error as error_of_open, put_seek_error as seek_error_of, SeeksPlace, WritesBody, look_up_file as look_up_file_of, body_verdict};
+ghost use Rattle.dav_engine.specs.Put.{put_rules, put_served, is_patch as is_patch_method, as_looked, put_options as options_of_put, put_type, put_open_error as error_of_open, put_seek_error as seek_error_of, SeeksPlace, WritesBody, look_up_file as look_up_file_of, body_verdict};
 ghost use Rattle.dav_engine.specs.Rules.{found_in};
 ghost use Rattle.dav_engine.specs.ByEngine.{IsSameEngine, WritesBy, bytes_by, EndsInRange, JudgesBy};
 
@@ -17,11 +17,11 @@ use crate::judge::closed;
 use crate::opening::{making_options, misplaced_status};
 use crate::put_reply::put_reply;
 use crate::target::{Target, find_target};
-use dav_headers::read_checksum;
+use dav_headers::{read_checksum, read_media_type};
 use dav_messages::body_length;
 use dav_resource::{
-    Body, DavError, DavFile, DavRequest, DavResult, FsError, FsResult, Meta, OpenOptions, ReqBody,
-    Text,
+    Body, DavError, DavFile, DavRequest, DavResult, FsError, FsResult, Meta, OpenOptions, Profile,
+    ReqBody, SharedText, Text,
 };
 use dav_store::{DavLockSystem, GuardedFileSystem};
 use http::{Method, Response, StatusCode};
@@ -32,7 +32,9 @@ impl<'a, C: Drop, F: GuardedFileSystem<C>, L: DavLockSystem> DavInner<'a, C, F, 
     /// Writes the body to the file at the path. Returns 204 if the lookup found something there, else 201. A
     /// request of any method but PATCH is executed as PUT.
     ///
-    /// A PUT replaces the whole file, unless its Content-Range names a part of it. A PATCH writes the body at
+    /// A PUT replaces the whole file, unless its Content-Range names a part of it. In the profile `Standard` it then sets the
+    /// media type that the store keeps of the file to that of its Content-Type, or to none if there is none, if it is no
+    /// media type or if it is `application/octet-stream`. A PATCH writes the body at
     /// the offset that X-Update-Range names, or at the end of the file. A Content-Range also applies to a
     /// PATCH: its offset replaces the one of X-Update-Range, but an append still appends. If the file ends
     /// before the offset and the body is not empty, zeros fill the gap. No body counts as an empty one. A body
@@ -117,7 +119,7 @@ impl<'a, C: Drop, F: GuardedFileSystem<C>, L: DavLockSystem> DavInner<'a, C, F, 
         ensures same_locks { lent_locks self.new ≡ lent_locks self.old }
         ensures work { WritesBy F.seen partial request.entry.now found self.old (answer_of result) self.new }
     {
-        let options = put_options(*self.prefix.allocator(), request, target)?;
+        let options = put_options(*self.prefix.allocator(), self.profile, request, target)?;
         self.write_with(partial, request, found, target, &options)
     }
 
@@ -132,7 +134,7 @@ impl<'a, C: Drop, F: GuardedFileSystem<C>, L: DavLockSystem> DavInner<'a, C, F, 
     ) -> DavResult<Response<Body>>
         requires aimed { target_of partial request.now.headers (as_looked found) ≡ Ok target.now }
         requires reach { EndsInRange target.now (bytes_by F.seen self.old request.now.body) }
-        requires options { options.now ≡ options_of_put request.now target.now }
+        requires options { options.now ≡ options_of_put self.old.profile request.now target.now }
         ensures same_engine { IsSameEngine self.old self.new }
         ensures same_locks { lent_locks self.new ≡ lent_locks self.old }
         ensures work { WritesBy F.seen partial request.entry.now found self.old (answer_of result) self.new }
@@ -219,8 +221,13 @@ fn has_length(target: &Target, length: u64) -> bool
 
 /// Returns the options to open the file for writing: it is created if the conditions allow that, and emptied
 /// unless a part is kept. The only error is `Memory`.
-fn put_options(alloc: Global, request: &DavRequest, target: &Target) -> DavResult<OpenOptions>
-    ensures ok { IfOk result (λ options. options ≡ options_of_put request.entry.now target.now) }
+fn put_options(
+    alloc: Global,
+    profile: Profile,
+    request: &DavRequest,
+    target: &Target,
+) -> DavResult<OpenOptions>
+    ensures ok { IfOk result (λ options. options ≡ options_of_put profile request.entry.now target.now) }
     ensures err { IfErr result (λ e. e ≡ DavError.Memory) }
 {
     let options = making_options(alloc, request)?;
@@ -229,6 +236,7 @@ fn put_options(alloc: Global, request: &DavRequest, target: &Target) -> DavResul
         append: target.append,
         size: target.stated,
         checksum: checksum(alloc, &request.headers)?,
+        media_type: media_type(alloc, profile, request, target)?,
         ..options
     })
 }
@@ -240,6 +248,25 @@ fn checksum(alloc: Global, headers: &HeaderMap<HeaderValue>) -> DavResult<Option
 {
     match read_checksum(headers)? {
         Some(text) => Ok(Some(Text::from_string(String::from_str(alloc, text)?))),
+        None => Ok(None),
+    }
+}
+
+/// Returns the media type that the file is to keep. The only error is `Memory`.
+fn media_type(
+    alloc: Global,
+    profile: Profile,
+    request: &DavRequest,
+    target: &Target,
+) -> DavResult<Option<SharedText>>
+    ensures ok { IfOk result (λ kept. kept ≡ put_type profile request.entry.now target.now) }
+    ensures err { IfErr result (λ e. e ≡ DavError.Memory) }
+{
+    if !profile.keeps_media_type() || target.part {
+        return Ok(None);
+    }
+    match read_media_type(&request.headers)? {
+        Some(text) => Ok(Some(SharedText::from_str(alloc, text)?)),
         None => Ok(None),
     }
 }

@@ -3,6 +3,7 @@ pub mod ValueLaws
 pub mod Number
 pub mod Range
 pub mod Body
+pub mod MediaType
 pub mod Client
 pub mod Depth
 pub mod Overwrite

@@ -5,7 +5,7 @@ use Rattle.std.specs.Option.{option_map}
 use Rattle.std.specs.Fmt.{decimal, digits}
 use Rattle.dav_key.specs.Key.{Key}
 use Rattle.dav_resource.specs.PathForms.{file_name}
-use Rattle.dav_resource.specs.Mime.{mime_type_of}
+use Rattle.dav_resource.specs.Mime.{media_type_of}
 use Rattle.dav_resource.specs.declared.meta.Meta.{Meta}
 
 -- with leading zeros, at least this many digits
@@ -20,9 +20,9 @@ quoted text = codes "\"" ++ text ++ codes "\""
 abbrev pub length_text : Meta → Option (List ℕ)
 length_text meta = if meta.dir then None else Some (decimal meta.len)
 
--- the media type for the file name, or a fixed one for a directory
+-- the media type of a file, or a fixed one for a directory
 abbrev pub type_text : Key → Meta → Option (List ℕ)
-type_text key meta = Some (if meta.dir then codes "httpd/unix-directory" else mime_type_of (file_name key))
+type_text key meta = Some (if meta.dir then codes "httpd/unix-directory" else media_type_of meta.media_type (file_name key))
 
 -- the entity tag in quotes, if there is one
 abbrev pub tag_text : Meta → Option (List ℕ)

@@ -63,14 +63,15 @@ fn length_text(alloc: Global, meta: &Meta) -> Result<Option<Text>, AllocError>
     }
 }
 
-/// Returns the media type for the path's extension, or `httpd/unix-directory` for a directory.
+/// Returns the media type that is kept of a file or, if there is none, that for its name's extension. It is
+/// `httpd/unix-directory` for a directory.
 fn type_text(alloc: Global, path: &DavPath, meta: &Meta) -> Result<Option<Text>, AllocError>
     ensures { IfOk result (λ text. text ≡ text_of_type path.now.key meta.now) }
 {
     let media_type = if meta.dir {
         "httpd/unix-directory"
     } else {
-        path.get_mime_type_str()
+        meta.media_type_at(path)
     };
     Ok(Some(Text::from_str(alloc, media_type)?))
 }

@@ -1,6 +1,7 @@
 -- The media type of a file, from its name. The extensions are this project's own choice, the types are those of the IANA registry.
-use Rattle.std.specs.Prelude.{ℕ, ◌&&◌, ◌||◌, ◌==◌, not, Bool, codes, bytes_eq, List, [], ◌∷◌, drop, map, if◌then◌else◌}
+use Rattle.std.specs.Prelude.{ℕ, ◌&&◌, ◌||◌, ◌==◌, not, Bool, codes, bytes_eq, List, [], ◌∷◌, drop, map, Option, if◌then◌else◌}
 use Rattle.std.specs.List.{list_any}
+use Rattle.std.specs.Option.{unwrap_or}
 use Rattle.std.specs.Char.{to_ascii_lowercase}
 
 -- `.`
@@ -39,3 +40,7 @@ type_of extension =
 -- the media type of a file with this name; its extension may be in any ASCII case
 abbrev pub mime_type_of : List ℕ → List ℕ
 mime_type_of name = type_of (map to_ascii_lowercase (extension_of name))
+
+-- the media type of a file: the one that is kept, or else that for its name
+abbrev pub media_type_of : Option (List ℕ) → List ℕ → List ℕ
+media_type_of kept name = unwrap_or kept (mime_type_of name)

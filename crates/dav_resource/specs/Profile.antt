@@ -24,6 +24,11 @@ abbrev pub sets_times : Profile → Bool
 sets_times Crate = false
 sets_times Standard = true
 
+-- a PUT of a whole file sets its media type (RFC 9110, section 8.3), and it is not that for the name alone
+abbrev pub keeps_media_type : Profile → Bool
+keeps_media_type Crate = false
+keeps_media_type Standard = true
+
 -- `:`, `@` and the delimiters that a segment may have (RFC 3986, sections 2.2 and 3.3), except `&` and `;`
 abbrev pub is_delimiter : ℕ → Bool
 is_delimiter b = b == 33 || b == 36 || b == 39 || b == 40 || b == 41 || b == 42 || b == 43 || b == 44 || b == 58 || b == 61 || b == 64

@@ -16,6 +16,7 @@ mod property;
 mod record;
 mod request;
 mod shared_element;
+mod shared_text;
 mod start_tag;
 mod text;
 
@@ -34,5 +35,6 @@ pub use property::{DavProp, PropertyPatch};
 pub use record::{Op, Outcome, Record};
 pub use request::{Body, DavRequest, Depth, ReqBody};
 pub use shared_element::SharedElement;
+pub use shared_text::SharedText;
 pub use start_tag::StartTag;
 pub use text::{Items, Text};

@@ -1,7 +1,9 @@
 //! Metadata of resources, and options for opening a file.
 ghost use Rattle.std.specs.Prelude.{◌≡◌, IfOk};
+ghost use Rattle.dav_resource.specs.Mime.{media_type_of};
+ghost use Rattle.dav_resource.specs.PathForms.{file_name};
 
-use crate::{DavPath, Text};
+use crate::{DavPath, SharedText, Text};
 use std::alloc::AllocError;
 
 /// The metadata of a resource. Times are whole seconds since 1970.
@@ -24,6 +26,8 @@ pub struct Meta {
     /// The string between the quotes of the strong entity tag (RFC 7232, section 2.3), if there is one. A store
     /// sets only strings of bytes 0x21 to 0x7E without the quote.
     pub etag: Option<Text>,
+    /// The media type that the store keeps of a file, if it keeps one (`OpenOptions::media_type`).
+    pub media_type: Option<SharedText>,
 }
 
 impl Meta {
@@ -44,7 +48,19 @@ impl Meta {
             status_changed: self.status_changed,
             executable: self.executable,
             etag,
+            media_type: SharedText::cloned(&self.media_type)?,
         })
+    }
+
+    /// Returns the media type of a file at this path: the one that is kept or, if there is none, that for the extension of
+    /// its name (`DavPath::get_mime_type_str`).
+    pub fn media_type_at(&self, path: &DavPath) -> &str
+        ensures { result.now ≡ media_type_of self.now.media_type (file_name path.now.key) }
+    {
+        match &self.media_type {
+            Some(kept) => kept.as_str(),
+            None => path.get_mime_type_str(),
+        }
     }
 }
 
@@ -74,6 +90,8 @@ pub struct OpenOptions {
     pub size: Option<u64>,
     /// The checksum of the bytes that will be written, if the request states it.
     pub checksum: Option<Text>,
+    /// The media type that a store keeps of the file if the call creates or empties it. `None` if there is none to keep.
+    pub media_type: Option<SharedText>,
 }
 
 /// A handle of an open file, for calls of the store.

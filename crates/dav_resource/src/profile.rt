@@ -1,6 +1,6 @@
 //! Where an engine may do what the crate that it was ported from does, or what the standards say.
 ghost use Rattle.std.specs.Prelude.{◌≡◌};
-ghost use Rattle.dav_resource.specs.Profile.{repeats_request, depth_word, sets_times};
+ghost use Rattle.dav_resource.specs.Profile.{repeats_request, depth_word, sets_times, keeps_media_type};
 
 /// What an engine does where the Rust crate and the standards differ. No request changes it.
 #[derive(Clone, Copy, Debug, PartialEq, Eq)]
@@ -38,6 +38,17 @@ impl Profile {
     /// Otherwise it succeeds and changes nothing.
     pub fn sets_times(self) -> bool
         ensures { result ≡ sets_times self }
+    {
+        match self {
+            Profile::Crate => false,
+            Profile::Standard => true,
+        }
+    }
+
+    /// Returns whether a file keeps the media type that the PUT of its content states. Otherwise its media type is that for
+    /// the extension of its name.
+    pub fn keeps_media_type(self) -> bool
+        ensures { result ≡ keeps_media_type self }
     {
         match self {
             Profile::Crate => false,

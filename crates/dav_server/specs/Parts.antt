@@ -4,7 +4,7 @@ use Rattle.std.specs.FinMap.{get}
 use Rattle.std.specs.Option.{option_eq}
 use Rattle.dav_resource.specs.Errors.{dav_status, fs_status}
 use Rattle.dav_key.specs.Key.{Key}
-use Rattle.dav_resource.specs.Mime.{mime_type_of}
+use Rattle.dav_resource.specs.Mime.{media_type_of}
 use Rattle.dav_resource.specs.PathForms.{file_name}
 use Rattle.dav_resource.specs.PathText.{PathValue, read_path}
 use Rattle.dav_resource.specs.declared.error.DavError.{DavError}
@@ -34,7 +34,7 @@ MayRead refuses key = MayList refuses key × (refuses ReadBytes (key ∷ []) ≡
 -- these bytes as a part of a file with this metadata
 abbrev pub part_with : Key → Meta → List ℕ → PartValue
 part_with key meta bytes =
-    record { length = meta.len; modified = meta.modified; version = meta.etag; media_type = mime_type_of (file_name key); bytes = bytes }
+    record { length = meta.len; modified = meta.modified; version = meta.etag; media_type = media_type_of meta.media_type (file_name key); bytes = bytes }
 
 -- the file at the key has the requested version, and this is the requested part of it; its bytes are as the store says of them
 pub record ReturnsPart (said : Reads) (contents : Contents) (key : Key) (asked : ReadValue) (part : PartValue) : Type 0 where

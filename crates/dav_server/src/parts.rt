@@ -140,7 +140,7 @@ fn part_of<'r>(path: &DavPath, meta: &'r Meta, bytes: &'r [u8]) -> FilePart<'r>
         length: meta.len,
         modified: meta.modified,
         version: version_of(meta),
-        media_type: path.get_mime_type_str(),
+        media_type: meta.media_type_at(path),
         bytes,
     }
 }

@@ -15,7 +15,8 @@ use Rattle.dav_resource.specs.declared.record.Outcome.TheVariants.{Granted, Barr
 use Rattle.dav_resource.specs.declared.error.FsError.{FsError}
 use Rattle.dav_resource.specs.declared.error.FsError.TheVariants.{NotFound, Exists, Forbidden, Memory}
 use Rattle.dav_store.specs.Logged.{Logged, logged}
-use Rattle.dav_store.specs.Store.{Store, Contents, Node, File, Directory, Quota}
+use Rattle.dav_key.specs.Below.{put_at}
+use Rattle.dav_store.specs.Store.{Store, Contents, Types, Node, File, Directory, Quota}
 
 -- ---- the outcomes of a call
 
@@ -101,10 +102,11 @@ create_dir_bar None None = Some NotFound
 abbrev pub create_dir_call : Contents → Key → Call
 create_dir_call old key = record { op = CreateDir; keys = key ∷ []; bar = create_dir_bar (get old.tree key) (get old.tree (parent key)) }
 
--- a directory is created, and all properties stay the same
+-- a directory is created, and all properties and media types stay the same
 pub record IsMadeAt (key : Key) (old new : Contents) : Type 0 where
   pub tree : new.tree ≡ insert old.tree key Directory
   pub properties : new.properties ≡ old.properties
+  pub types : new.types ≡ old.types
   pub limit : limit_of new ≡ limit_of old
 
 abbrev pub MakesDirectory : Store → Key → Result (Unit {0}) FsError → Store → Type 0
@@ -129,11 +131,17 @@ bytes_at (Some (File bytes)) = bytes
 bytes_at (Some Directory) = []
 bytes_at None = []
 
+-- the media type of the options is kept of a file that is created or emptied, or none if they have none; other media types stay the same
+abbrev pub opened_types : OpenOptions → Key → Option Node → Types → Types
+opened_types options key None types = put_at types key options.media_type
+opened_types options key (Some node) types = if options.truncate then put_at types key options.media_type else types
+
 -- the handle is at offset 0; the file has the bytes that it had, or none if it is new or `truncate` is set; all properties stay the same
 pub record IsOpened (path : PathValue) (options : OpenOptions) (file : DavFile) (old new : Contents) : Type 0 where
   pub handle : file ≡ record { path = path; pos = 0; append = options.append }
   pub tree : new.tree ≡ insert old.tree path.key (File (if options.truncate then [] else bytes_at (get old.tree path.key)))
   pub properties : new.properties ≡ old.properties
+  pub types : new.types ≡ option_map (opened_types options path.key (get old.tree path.key)) old.types
   pub limit : limit_of new ≡ limit_of old
 
 abbrev pub Opens : Store → PathValue → OpenOptions → Result DavFile FsError → Store → Type 0
@@ -215,6 +223,7 @@ place_of file contents = if file.append then length (bytes_at (get contents.tree
 pub record IsWritten (file : DavFile) (more : List ℕ) (old new : Contents) : Type 0 where
   pub tree : new.tree ≡ insert old.tree file.path.key (File (written_at (bytes_at (get old.tree file.path.key)) (place_of file old) more))
   pub properties : new.properties ≡ old.properties
+  pub types : new.types ≡ old.types
   pub limit : limit_of new ≡ limit_of old
 
 abbrev pub Writes : Store → DavFile → List ℕ → Result (Unit {0}) FsError → Store → Type 0

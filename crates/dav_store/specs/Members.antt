@@ -1,6 +1,7 @@
 -- The calls of a store that list a directory, or remove a file or a directory (RFC 4918, sections 5.2 and 9.6).
 use Rattle.std.specs.Prelude.{◌≡◌, ℕ, Bool, true, if◌then◌else◌, bytes_eq, List, [], ◌∷◌, ◌++◌, map, filter_map, Option, Some, None, Result, Ok, Err, Vec, ◌⊎◌, IfOk, IfErr, IsPermutation}
 use Rattle.std.specs.declared.alloc.Global.{Global}
+use Rattle.std.specs.Option.{option_map}
 use Rattle.std.specs.FinMap.{get, remove, keys}
 use Rattle.dav_key.specs.Key.{Key}
 pub use Rattle.dav_key.specs.Members.{name_in, member}
@@ -10,7 +11,7 @@ use Rattle.dav_resource.specs.declared.record.Outcome.TheVariants.{Granted, Refu
 use Rattle.dav_resource.specs.declared.error.FsError.{FsError}
 use Rattle.dav_resource.specs.declared.error.FsError.TheVariants.{NotFound, Exists, Forbidden, Memory}
 use Rattle.dav_store.specs.Logged.{Logged, logged}
-use Rattle.dav_store.specs.Store.{Store, Contents, Node, File, Directory, Tree}
+use Rattle.dav_store.specs.Store.{Store, Contents, Types, Node, File, Directory, Tree}
 use Rattle.dav_store.specs.Calls.{Call, record_of, IsOwn, Answers, Declines, limit_of, must_be_file}
 
 -- ---- members
@@ -24,10 +25,11 @@ members tree directory = filter_map (name_in directory) (keys tree)
 abbrev pub remove_file_call : Contents → Key → Call
 remove_file_call old key = record { op = RemoveFile; keys = key ∷ []; bar = must_be_file (get old.tree key) }
 
--- the file or directory at the key is removed, with its properties
+-- the file or directory at the key is removed, with its properties and its media type
 pub record IsRemovedAt (key : Key) (old new : Contents) : Type 0 where
   pub tree : new.tree ≡ remove old.tree key
   pub properties : new.properties ≡ remove old.properties key
+  pub types : new.types ≡ option_map (λ (types : Types). remove types key) old.types
   pub limit : limit_of new ≡ limit_of old
 
 abbrev pub RemovesFile : Store → Key → Result (Unit {0}) FsError → Store → Type 0

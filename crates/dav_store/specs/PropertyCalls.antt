@@ -129,6 +129,7 @@ patch_record key outcome statuses = record { op = PatchProps; keys = key ∷ [];
 pub record IsPatchedAt (key : Key) (patches : List Patch) (old new : Contents) : Type 0 where
   pub tree : new.tree ≡ old.tree
   pub properties : new.properties ≡ put_at old.properties key (some_properties (patched patches (properties_at old key)))
+  pub types : new.types ≡ old.types
   pub times : HasTimes patches (new.metas key)
   pub limit : limit_of new ≡ limit_of old
 

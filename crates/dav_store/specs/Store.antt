@@ -1,7 +1,7 @@
 -- What contracts see of a store (RFC 4918, section 5): a tree of files and directories with their properties, and a log.
 use Rattle.std.specs.Prelude.{◌≡◌, ◌≢◌, ◌&&◌, not, nat_eq, nat_le, ℕ, Bool, true, false, IsTrue, List, [], ◌∷◌, ◌++◌, length, Option, Some, None}
 use Rattle.std.specs.List.{list_all}
-use Rattle.std.specs.Option.{ForSome}
+use Rattle.std.specs.Option.{ForSome, option_and_then}
 use Rattle.std.specs.FinMap.{FinMap, empty, get}
 use base.Stored.{Gv}
 use Rattle.dav_key.specs.Key.{Key, key_cmp, parent}
@@ -35,15 +35,20 @@ PropertyMap = FinMap key_cmp elements.Tree
 abbrev pub Properties : Type 0
 Properties = FinMap key_cmp PropertyMap
 
+-- the media types that are kept of files (RFC 9110, section 8.3)
+abbrev pub Types : Type 0
+Types = FinMap key_cmp (List ℕ)
+
 -- the number of used bytes and, if there is a limit, the total number of bytes (RFC 4331)
 pub record Quota : Type 0 where
   pub used : ℕ
   pub total : Option ℕ
 
--- what a store contains
+-- what a store contains; `types` is none if the store keeps no media types, and then it never does
 pub record Contents : Type 0 where
   pub tree : Tree
   pub properties : Properties
+  pub types : Option Types
   pub metas : Key → Option Meta
   pub quota : Option Quota
 
@@ -93,8 +98,13 @@ MetaFits (Some (File bytes)) (Some meta) = (meta.dir ≡ false) × (meta.len ≡
 abbrev pub AreNamed : PropertyMap → Type 0
 AreNamed properties = (name : Key) (element : elements.Tree) → get properties name ≡ Some element → element_key element ≡ name
 
+-- the media type that is kept at a key, if there is one
+abbrev pub type_at : Contents → Key → Option (List ℕ)
+type_at contents key = option_and_then (λ (types : Types). get types key) contents.types
+
 -- the root is a directory, and so is the parent of each key at which something exists; each such key is a valid key; a key at which nothing exists
--- has no properties, and no key has an empty map of them; the properties' elements have their names; the metadata fits the tree
+-- has no properties and no media type, and no key has an empty map of properties; the properties' elements have their names; the metadata fits the
+-- tree, and has the media type that is kept
 pub record IsWellFormed (contents : Contents) : Type 0 where
   pub root : get contents.tree [] ≡ Some Directory
   pub parents : (key : Key) → get contents.tree key ≢ None → get contents.tree (parent key) ≡ Some Directory
@@ -103,6 +113,8 @@ pub record IsWellFormed (contents : Contents) : Type 0 where
   pub none_empty : (key : Key) → get contents.properties key ≢ Some empty
   pub named : (key : Key) → ForSome (get contents.properties key) AreNamed
   pub metas : (key : Key) → MetaFits (get contents.tree key) (contents.metas key)
+  pub types : (key : Key) → get contents.tree key ≡ None → type_at contents key ≡ None
+  pub shown_types : (key : Key) → ForSome (contents.metas key) (λ (meta : Meta). meta.media_type ≡ type_at contents key)
 
 -- the entity tag in the metadata, if it has one, begins with these bytes
 abbrev pub HasTagFrom : List ℕ → Meta → Type 0

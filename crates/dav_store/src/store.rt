@@ -36,6 +36,10 @@ use http::StatusCode;
 /// change the times and entity tags of any resource, the length of a directory and the number of used bytes may
 /// be any that are well formed, but for a time that the call sets.
 ///
+/// A store may keep a media type of each file (RFC 9110, section 8.3), and returns it in the metadata. One that keeps none
+/// never does. `open` sets it, when it creates or empties the file. It goes with the file in a `copy` and a `rename`, and
+/// no other call changes it.
+///
 /// A store also holds bodies of requests, each under a number. The calls `start_body`, `add_to_body`,
 /// `drop_body` and `body_length` leave no record. They are for the HTTP server, which passes a body on piece by
 /// piece as it arrives, then names it in a request (`ReqBody::Stored`), and drops it after the request.
@@ -48,7 +52,8 @@ pub trait GuardedFileSystem<C> {
     /// store's own reasons. By default the bytes are those of the file.
     ghost reads: { Self → Reads } = { λ _. exact_reads };
 
-    /// Returns the metadata of a file or directory. Barred: `NotFound` if nothing exists at the path.
+    /// Returns the metadata of a file or directory, with the media type that is kept of a file. Barred: `NotFound` if nothing
+    /// exists at the path.
     fn metadata(&mut self, path: &DavPath, credentials: &C) -> FsResult<Meta>
         ensures { LooksUp (seen self.old) path.now.key result (seen self.new) };
 
@@ -86,8 +91,8 @@ pub trait GuardedFileSystem<C> {
     fn remove_dir(&mut self, path: &DavPath, credentials: &C) -> FsResult<()>
         ensures { RemovesDir (seen self.old) path.now.key result (seen self.new) };
 
-    /// Copies a file, with its properties, to a path where a file or nothing exists. The bytes and properties
-    /// of the source replace all bytes and properties of a file at `to`.
+    /// Copies a file, with its properties and its media type, to a path where a file or nothing exists. The bytes, the
+    /// properties and the media type of the source replace those of a file at `to`.
     ///
     /// Barred:
     ///
@@ -111,7 +116,9 @@ pub trait GuardedFileSystem<C> {
         ensures { Renames (seen self.old) from.now.key to.now.key result (seen self.new) };
 
     /// Opens a file, at offset 0. With `create` or `create_new` it creates a missing file, which is empty and
-    /// has no properties. With `truncate` it empties an existing file, which keeps its properties.
+    /// has no properties. With `truncate` it empties an existing file, which keeps its properties. A store that keeps media
+    /// types then keeps that of the options, or none if they have none. A file that is opened without being created or
+    /// emptied keeps the media type that it has.
     ///
     /// Barred:
     ///
@@ -255,8 +262,8 @@ pub trait GuardedFileSystem<C> {
     /// The root is a directory, and the parent of every other file or directory is a directory. Every key that
     /// exists is a valid key. Exactly the files and directories that exist have metadata, and only these have
     /// properties. No key has an empty map of them, and the element of each property has its name. Metadata
-    /// gives the right kind and, for a file, the right length, and an entity tag has only visible ASCII bytes
-    /// except the quote.
+    /// gives the right kind and, for a file, the right length and the media type that is kept, and an entity tag has
+    /// only visible ASCII bytes except the quote.
     ghost well_formed: { (store : Self) → IsWellFormed (seen store).contents };
 
     /// Each entity tag begins with the bytes that the facts of the store name, which no recorded call changes.

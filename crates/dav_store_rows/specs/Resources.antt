@@ -1,5 +1,6 @@
 -- The rows of one resource: this project's own choice.
-use Rattle.std.specs.Prelude.{ℕ, pos, Bool, true, false, List, [], ◌∷◌, ◌+◌, ◌++◌, map}
+use Rattle.std.specs.Prelude.{◌≡◌, ◌==◌, ℕ, pos, Bool, true, false, List, [], ◌∷◌, ◌+◌, ◌++◌, map, Option, Some, None}
+use Rattle.std.specs.List.{list_any}
 use Rattle.std.specs.Option.{unwrap_or}
 use Rattle.std.specs.FinMap.{entries}
 use Rattle.dav_key.specs.Key.{Key}
@@ -28,11 +29,23 @@ abbrev pub pieces_in : Content (List Piece) → List Piece
 pieces_in (contents.File pieces) = pieces
 pieces_in contents.Directory = []
 
+-- `/`, which no name has
+abbrev pub is_slash : ℕ → Bool
+is_slash b = b == 47
+
+abbrev pub IsPlainName : List ℕ → Type 0
+IsPlainName name = list_any is_slash name ≡ false
+
+-- the cell of a name: behind it, a slash and the media type that is kept, if there is one
+abbrev pub name_cell : List ℕ → Option (List ℕ) → List ℕ
+name_cell name None = name
+name_cell name (Some media_type) = name ++ 47 ∷ media_type
+
 -- the row of a resource; the root's name is empty
 abbrev pub resource_values : Row Kept → ResourceValues
 resource_values row = record {
   parent = pos (unwrap_or row.above 0);
-  name = unwrap_or row.name [];
+  name = name_cell (unwrap_or row.name []) row.value.media_type;
   directory = is_directory row.value.content;
   size = pos (size_of (pieces_in row.value.content));
   version = pos row.value.version;

@@ -4,6 +4,7 @@ use Rattle.std.specs.Coded.{Coded, code_by, coded×, coded_option, coded_ℕ}
 use Rattle.std.specs.FinMap.{get}
 use base.Stored.{Gv, gnil, gcons}
 use Rattle.dav_key.specs.Key.{Key}
+use Rattle.dav_resource.specs.TreeCode.{text_code}
 use Rattle.dav_nodes.specs.Tree.{Tree}
 use Rattle.dav_nodes.specs.Codes.{tree_code}
 use Rattle.dav_nodes.specs.Rows.{Row, HasRow, HasNoted, AreDistinct, AreJoined, is_noted}
@@ -47,10 +48,10 @@ module _ {B : Type 0} where
   abbrev pub entry_code : Coded B → Coded (Entry B)
   entry_code body =
       code_by
-      (Content B × (ℕ × (ℕ × (ℕ × _))))
-      (coded× (content_code body) (coded× coded_ℕ (coded× coded_ℕ (coded× coded_ℕ property_map_code))))
-      (λ e. (e.content, (e.version, (e.created, (e.modified, e.properties)))))
-      (λ p. record { content = p.0; version = p.1.0; created = p.1.1.0; modified = p.1.1.1.0; properties = p.1.1.1.1 })
+      (Content B × (ℕ × (ℕ × (ℕ × (_ × _)))))
+      (coded× (content_code body) (coded× coded_ℕ (coded× coded_ℕ (coded× coded_ℕ (coded× property_map_code (coded_option text_code))))))
+      (λ e. (e.content, (e.version, (e.created, (e.modified, (e.properties, e.media_type))))))
+      (λ p. record { content = p.0; version = p.1.0; created = p.1.1.0; modified = p.1.1.1.0; properties = p.1.1.1.1.0; media_type = p.1.1.1.1.1 })
       (λ _. refl)
 
   -- a tree of entries as one value

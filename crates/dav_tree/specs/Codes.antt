@@ -27,11 +27,18 @@ node_back Directory = refl
 
 abbrev pub stored_code : Coded Stored
 stored_code =
-    code_by (Option (List ℕ) × (ℕ × (ℕ × (ℕ × PropertyMap))))
-    (coded× (coded_option text_code) (coded× coded_ℕ (coded× coded_ℕ (coded× coded_ℕ property_map_code))))
-    (λ s. (bytes_in s.node, (s.version, (s.created, (s.modified, s.properties)))))
-    (λ p. record { node = node_from p.0; version = p.1.0; created = p.1.1.0; modified = p.1.1.1.0; properties = p.1.1.1.1 })
-    (λ s i. record { node = node_back s.node i; version = s.version; created = s.created; modified = s.modified; properties = s.properties })
+    code_by (Option (List ℕ) × (ℕ × (ℕ × (ℕ × (PropertyMap × Option (List ℕ))))))
+    (coded× (coded_option text_code) (coded× coded_ℕ (coded× coded_ℕ (coded× coded_ℕ (coded× property_map_code (coded_option text_code))))))
+    (λ s. (bytes_in s.node, (s.version, (s.created, (s.modified, (s.properties, s.media_type))))))
+    (λ p. record { node = node_from p.0; version = p.1.0; created = p.1.1.0; modified = p.1.1.1.0; properties = p.1.1.1.1.0; media_type = p.1.1.1.1.1 })
+    (λ s i. record {
+      node = node_back s.node i;
+      version = s.version;
+      created = s.created;
+      modified = s.modified;
+      properties = s.properties;
+      media_type = s.media_type;
+    })
 
 abbrev pub resources_code : Coded Resources
 resources_code = code key_code stored_code

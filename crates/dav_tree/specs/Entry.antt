@@ -11,7 +11,7 @@ node_by bytes (contents.File body) = File (bytes body)
 node_by bytes contents.Directory = Directory
 
 abbrev pub stored_by : {B : Type 0} → (B → List ℕ) → Entry B → Stored
-stored_by bytes e = record { node = node_by bytes e.content; version = e.version; created = e.created; modified = e.modified; properties = e.properties }
+stored_by bytes e = record { node = node_by bytes e.content; version = e.version; created = e.created; modified = e.modified; properties = e.properties; media_type = e.media_type }
 
 -- the resource with the times and the number of another change
 abbrev pub remade : ℕ → ℕ → ℕ → Stored → Stored

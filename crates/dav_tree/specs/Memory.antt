@@ -10,7 +10,7 @@ use Rattle.dav_resource.specs.PathText.{IsKey}
 use Rattle.dav_resource.specs.declared.meta.Meta.{Meta}
 use Rattle.dav_key.specs.Below.{put_at, each}
 use Rattle.dav_store.specs.Logged.{Logged}
-use Rattle.dav_store.specs.Store.{Node, File, Directory, Tree, PropertyMap, Properties, Quota, Contents, Bodies, Facts, Store, AreNamed}
+use Rattle.dav_store.specs.Store.{Node, File, Directory, Tree, PropertyMap, Properties, Types, Quota, Contents, Bodies, Facts, Store, AreNamed}
 use Rattle.dav_store.specs.Calls.{bytes_at, written_at}
 use Rattle.dav_store.specs.BodyCalls.{put_body, stored_bytes}
 use Rattle.dav_store.specs.Transfers.{IsMoved}
@@ -23,6 +23,7 @@ pub record Stored : Type 0 where
   pub created : ℕ
   pub modified : ℕ
   pub properties : PropertyMap
+  pub media_type : Option (List ℕ)
 
 -- the resources by their keys
 abbrev pub Resources : Type 0
@@ -53,6 +54,9 @@ tree_of resources = each (λ s. Some s.node) resources
 
 abbrev pub properties_of : Resources → Properties
 properties_of resources = each (λ s. some_properties s.properties) resources
+
+abbrev pub types_of : Resources → Types
+types_of resources = each (λ s. s.media_type) resources
 
 abbrev pub is_directory : Node → Bool
 is_directory (File bytes) = false
@@ -92,14 +96,21 @@ abbrev pub tag_text : Option ℕ → ℕ → List ℕ
 tag_text part version = tag_start part ++ hexadecimal version
 
 abbrev pub meta_of : Option ℕ → Stored → Meta
-meta_of part s = record { dir = is_directory s.node; len = size_of s.node; modified = Some s.modified; created = Some s.created; accessed = None; status_changed = None; executable = None; etag = Some (tag_text part s.version) }
+meta_of part s = record { dir = is_directory s.node; len = size_of s.node; modified = Some s.modified; created = Some s.created; accessed = None; status_changed = None; executable = None; etag = Some (tag_text part s.version); media_type = s.media_type }
 
 -- the bytes used are reported as at most 2^64 - 1
 abbrev pub quota_of : Memory → Option Quota
 quota_of memory = option_map (λ total. record { used = min (used_by memory.resources) (2 ^ 64 - 1); total = total }) memory.limit
 
 abbrev pub contents_of : Memory → Contents
-contents_of memory = record { tree = tree_of memory.resources; properties = properties_of memory.resources; metas = λ key. option_map (meta_of memory.tag_part) (get memory.resources key); quota = quota_of memory }
+contents_of memory =
+    record {
+      tree = tree_of memory.resources;
+      properties = properties_of memory.resources;
+      types = Some (types_of memory.resources);
+      metas = λ key. option_map (meta_of memory.tag_part) (get memory.resources key);
+      quota = quota_of memory;
+    }
 
 -- it has dead properties, allows every call and shows every member; what is saved of it is what it was when it was last asked what has changed
 abbrev pub facts_by : Option ℕ → Held → Facts
@@ -123,13 +134,21 @@ pub record IsSound (resources : Resources) : Type 0 where
 
 -- ---- the effects of the calls
 
--- a resource created at time `now` by change number `version`, without properties
+-- a resource created at time `now` by change number `version`, without properties and without a media type
 abbrev pub fresh : Node → ℕ → ℕ → Stored
-fresh node version now = record { node = node; version = version; created = now; modified = now; properties = empty }
+fresh node version now = record { node = node; version = version; created = now; modified = now; properties = empty; media_type = None }
+
+-- a file created in the same way, of no bytes and with this media type, if any
+abbrev pub fresh_file : Option (List ℕ) → ℕ → ℕ → Stored
+fresh_file media_type version now = record (fresh (File []) version now) { media_type = media_type }
 
 -- the resource as a file with these bytes, changed at time `now` by change number `version`
 abbrev pub with_bytes : List ℕ → ℕ → ℕ → Stored → Stored
 with_bytes bytes version now s = record s { node = File bytes; version = version; modified = now }
+
+-- the file without bytes and with this media type, if any, changed at time `now` by change number `version`
+abbrev pub emptied : Option (List ℕ) → ℕ → ℕ → Stored → Stored
+emptied media_type version now s = record (with_bytes [] version now s) { media_type = media_type }
 
 -- the file with these bytes written at an offset, at time `now` by change number `version`
 abbrev pub wrote : ℕ → List ℕ → ℕ → ℕ → Stored → Stored
@@ -155,13 +174,21 @@ touched version now s = record s { version = version; modified = now }
 abbrev pub change_at : Key → (Stored → Stored) → Resources → Resources
 change_at key change resources = put_at resources key (option_map change (get resources key))
 
--- a resource is created
+-- a resource is created, as this by the number of the change and the time
+abbrev pub made_as : Key → (ℕ → ℕ → Stored) → Memory → Memory
+made_as key fresh old = record old { resources = insert old.resources key (fresh (old.version + 1) old.moment); version = old.version + 1 }
+
 abbrev pub made : Key → Node → Memory → Memory
-made key node old = record old { resources = insert old.resources key (fresh node (old.version + 1) old.moment); version = old.version + 1 }
+made key node = made_as key (fresh node)
 
 -- the file at the key gets these bytes
 abbrev pub filled : Key → List ℕ → Memory → Memory
 filled key bytes old = record old { resources = change_at key (with_bytes bytes (old.version + 1) old.moment) old.resources; version = old.version + 1 }
+
+-- the file at the key loses its bytes, and gets this media type
+abbrev pub emptied_at : Key → Option (List ℕ) → Memory → Memory
+emptied_at key media_type old =
+    record old { resources = change_at key (emptied media_type (old.version + 1) old.moment) old.resources; version = old.version + 1 }
 
 -- the resource at the key is removed; this does not count as a change
 abbrev pub without : Key → Memory → Memory
@@ -180,8 +207,11 @@ abbrev pub marked : Key → Memory → Memory
 marked key old = if old.marks then with_mark key old else old
 
 -- a resource is created, so its parent gains a member
+abbrev pub added_as : Key → (ℕ → ℕ → Stored) → Memory → Memory
+added_as key fresh old = marked (parent key) (made_as key fresh old)
+
 abbrev pub added : Key → Node → Memory → Memory
-added key node old = marked (parent key) (made key node old)
+added key node = added_as key (fresh node)
 
 -- the resource at the key is removed, so its parent loses a member
 abbrev pub removed : Key → Memory → Memory

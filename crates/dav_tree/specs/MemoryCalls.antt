@@ -21,7 +21,7 @@ use Rattle.dav_store.specs.Calls.{metadata_bar, create_dir_bar, open_bar, file_b
 use Rattle.dav_store.specs.Transfers.{copy_bar, rename_bar}
 use Rattle.dav_store.specs.PropertyCalls.{properties_at, get_prop_bar, properties_bar, get_quota_bar, named_element, HavePrefixes}
 use Rattle.dav_store.specs.Members.{members, member, remove_dir_bar, read_dir_bar}
-use Rattle.dav_tree.specs.Memory.{Stored, Resources, Held, Memory, tree_of, contents_of, quota_of, meta_of, filled, added}
+use Rattle.dav_tree.specs.Memory.{Stored, Resources, Held, Memory, tree_of, contents_of, quota_of, meta_of, fresh_file, filled, emptied_at, added_as}
 
 -- an error is the one that is due, unless it is one of the medium's own
 abbrev pub IsDue : Bool → Option FsError → FsError → Type 0
@@ -145,8 +145,8 @@ abbrev pub open_error : OpenOptions → Key → Memory → Option FsError
 open_error options key old = error_of_opening options (get old.resources key) (open_bar options (get (tree_of old.resources) key) (get (tree_of old.resources) (parent key))) old
 
 abbrev pub opened_from : OpenOptions → Key → Option Stored → Memory → Memory
-opened_from options key None old = added key (File []) old
-opened_from options key (Some s) old = if options.truncate then filled key [] old else old
+opened_from options key None old = added_as key (fresh_file options.media_type) old
+opened_from options key (Some s) old = if options.truncate then emptied_at key options.media_type old else old
 
 abbrev pub opened : OpenOptions → Key → Memory → Memory
 opened options key old = opened_from options key (get old.resources key) old

@@ -4,8 +4,8 @@ ghost use Rattle.std.specs.FinMap as map;
 ghost use Rattle.dav_key.specs.Key.{Key, parent};
 ghost use Rattle.dav_key.specs.Below.{AreApart, IsMoved};
 ghost use Rattle.dav_nodes.specs.Noted.{tree_of, before_of};
-ghost use Rattle.dav_store.specs.Store.{File, Directory};
-ghost use Rattle.dav_tree.specs.Memory.{Stored, used_by, size_of, meta_of, fresh, touched, patched_by, with_modified, asked};
+ghost use Rattle.dav_store.specs.Store.{Directory};
+ghost use Rattle.dav_tree.specs.Memory.{Stored, used_by, size_of, meta_of, fresh, fresh_file, touched, patched_by, with_modified, asked};
 ghost use Rattle.dav_nodes.specs.Rows.{row_in};
 ghost use Rattle.dav_tree.specs.Before.{IsNotedBetween, IsSaved, HasSaved, HasTree, HasEntry, HasNoEntry};
 ghost use Rattle.dav_tree.specs.KeptCalls.{IsUnchanged, IsChangedAt, ChangesAt};
@@ -24,7 +24,7 @@ use crate::medium::Medium;
 use crate::properties::Properties;
 use dav_key::FlatKey;
 use dav_nodes::{Changes, Nodes, NotedNodes, PlacedValue};
-use dav_resource::{FsResult, Meta, PropertyPatch};
+use dav_resource::{FsResult, Meta, PropertyPatch, SharedText};
 pub(crate) use soundness::are_sound;
 use std::alloc::{AllocError, Global};
 use std::collections::BTreeMap;
@@ -169,16 +169,23 @@ impl<M: Medium> Entries<M> {
         Ok(())
     }
 
-    /// Adds a file of no bytes, as `add_directory` does.
-    pub fn add_file(&mut self, key: &FlatKey, version: u64, now: u64) -> Result<(), AllocError>
+    /// Adds a file of no bytes with this media type, as `add_directory` does.
+    pub fn add_file(
+        &mut self,
+        key: &FlatKey,
+        media_type: Option<SharedText>,
+        version: u64,
+        now: u64,
+    ) -> Result<(), AllocError>
         requires absent { IsAbsent self.old key.now }
         requires above { IsSome (map.get self.old.numbers (parent key.now)) }
-        ensures ok { OnOk result (Has (map.insert self.old.resources key.now (fresh (File []) version now)) (held_of self.old) self.new) }
+        ensures ok { OnOk result (Has (map.insert self.old.resources key.now (fresh_file media_type version now)) (held_of self.old) self.new) }
         ensures numbers { OnOk result (KeepsNumbers self.old self.new) }
         ensures err { OnErr result (self.new ≡ self.old) }
     {
         let body = self.medium.empty(self.alloc);
-        let entry = Entry::new(self.alloc, Content::File(body), version, now);
+        let mut entry = Entry::new(self.alloc, Content::File(body), version, now);
+        entry.media_type = media_type;
         self.tree.add(key, entry)?;
         Ok(())
     }

@@ -1,5 +1,5 @@
 //! One resource of a store.
-ghost use Rattle.std.specs.Prelude.{◌≡◌, ◌<◌, ◌+◌, ◌^◌, ℕ, List, length, IfOk, IfErr, OnOk, OnErr, true, false, ◌++◌, string_bytes};
+ghost use Rattle.std.specs.Prelude.{◌≡◌, ◌<◌, ◌+◌, ◌^◌, ℕ, List, length, IfOk, IfErr, OnOk, OnErr, None, true, false, ◌++◌, string_bytes};
 ghost use Rattle.std.specs.FinMap as map;
 ghost use Rattle.dav_store.specs.PropertyCalls.{set_modified, set_created, then_modified, then_created};
 ghost use Rattle.dav_tree.specs.Memory.{is_directory, size_of, tag_text, meta_of, patched_by};
@@ -8,7 +8,7 @@ ghost use Rattle.dav_tree.specs.Entry.{node_by, stored_by, remade, IsWrittenTo, 
 
 use crate::medium::Medium;
 use crate::properties::Properties;
-use dav_resource::{FsResult, Meta, PropertyPatch, Text};
+use dav_resource::{FsResult, Meta, PropertyPatch, SharedText, Text};
 use std::alloc::{AllocError, Global};
 
 /// What is at a key: a file, with the body that has its bytes, or a directory.
@@ -31,16 +31,19 @@ pub struct Entry<B> {
     pub modified: u64,
     /// Its dead properties.
     pub properties: Properties,
+    /// The media type that is kept of a file, if there is one.
+    pub media_type: Option<SharedText>,
 }
 
 impl<B> Entry<B> {
-    /// Creates a resource without properties, as change number `version` at time `now`.
+    /// Creates a resource without properties and without a media type, as change number `version` at time `now`.
     pub fn new(alloc: Global, content: Content<B>, version: u64, now: u64) -> Entry<B>
         ensures content { result.content ≡ content }
         ensures version { result.version ≡ version }
         ensures created { result.created ≡ now }
         ensures modified { result.modified ≡ now }
         ensures properties { result.properties ≡ map.empty }
+        ensures media_type { result.media_type ≡ None }
     {
         Entry {
             content,
@@ -48,6 +51,7 @@ impl<B> Entry<B> {
             created: now,
             modified: now,
             properties: Properties::new(alloc),
+            media_type: None,
         }
     }
 
@@ -145,12 +149,13 @@ pub(crate) fn meta<M: Medium>(
         status_changed: None,
         executable: None,
         etag: Some(Text::from_string(tag)),
+        media_type: SharedText::cloned(&entry.media_type)?,
     })
 }
 
-/// Returns a copy of a resource with the same bytes and properties, created at time `created` and changed at
+/// Returns a copy of a resource with the same bytes, properties and media type, created at time `created` and changed at
 /// time `now` by change number `version`. Returns `Memory` if memory runs out, or an error of the medium's
-/// own. The properties' elements are shared.
+/// own. The properties' elements and the media type are shared.
 pub(crate) fn copy<M: Medium>(
     alloc: Global,
     medium: &M,
@@ -165,6 +170,7 @@ pub(crate) fn copy<M: Medium>(
     ensures err { IfErr result (FailsFor M.refuses) }
 {
     let properties = entry.properties.clone()?;
+    let media_type = SharedText::cloned(&entry.media_type)?;
     let content = match &entry.content {
         Content::File(body) => Content::File(medium.copy(alloc, body)?),
         Content::Directory => Content::Directory,
@@ -175,6 +181,7 @@ pub(crate) fn copy<M: Medium>(
         created,
         modified: now,
         properties,
+        media_type,
     })
 }
 

@@ -219,6 +219,7 @@ fn read_open(alloc: Global, value: &str) -> Result<StoreCall, LineError> {
         append: false,
         size: None,
         checksum: None,
+        media_type: None,
     };
     for word in words.split_whitespace() {
         match word {

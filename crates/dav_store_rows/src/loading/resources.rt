@@ -1,16 +1,17 @@
 //! One resource made from its rows.
-ghost use Rattle.std.specs.Prelude.{◌≡◌, ℕ, pos, List, IfOk};
+ghost use Rattle.std.specs.Prelude.{◌≡◌, ℕ, pos, List, Option, IfOk, option_copied};
 ghost use Rattle.dav_store.specs.Store.{PropertyMap, element_key};
 ghost use Rattle.dav_store.specs.PropertyCalls.{named_element};
 ghost use Rattle.dav_tree.specs.declared.entry.Content.{Content};
 ghost use Rattle.dav_pieces.specs.declared.piece.Piece.{Piece};
+ghost use Rattle.dav_store_rows.specs.Resources.{IsPlainName, name_cell};
 ghost use Rattle.dav_store_rows.specs.Loads.{HavePieces, HaveProperties, IsContent, LoadsAs, LoadsOne};
 
 use crate::LoadError;
 use dav_cells::{decode_element, decode_pieces};
 use dav_nodes::NumberedValue;
 use dav_pieces::{Body, Piece};
-use dav_resource::{DavProp, Element, PropertyPatch, SharedElement, Text};
+use dav_resource::{DavProp, Element, PropertyPatch, SharedElement, SharedText, Text};
 use dav_rows::{ExtentRow, PropertyRow, ResourceRow};
 use dav_tree::{Content, Entry, Properties};
 use std::alloc::{AllocError, Global};
@@ -103,6 +104,26 @@ fn content_of(directory: bool, size: i64, pieces: Vec<Piece>) -> Result<Content<
     }
 }
 
+/// Returns the name of a resource, and its media type if one is kept, from the cell of its name. No name has a slash.
+fn split_cell(cell: &str) -> (&str, Option<&str>)
+    ensures { (name : List ℕ) (media_type : Option (List ℕ)) → IsPlainName name → cell.now ≡ name_cell name media_type → (result.0.now ≡ name) × (option_copied result.1 ≡ media_type) }
+{
+    match cell.split_once('/') {
+        Some((name, media_type)) => (name, Some(media_type)),
+        None => (cell, None),
+    }
+}
+
+/// Copies a string, if there is one. Fails only if memory runs out.
+fn shared(alloc: Global, text: Option<&str>) -> Result<Option<SharedText>, AllocError>
+    ensures { IfOk result (λ copy. copy ≡ option_copied text.entry) }
+{
+    match text {
+        Some(text) => Ok(Some(SharedText::from_str(alloc, text)?)),
+        None => Ok(None),
+    }
+}
+
 /// Returns a resource from its row, the rows of its extents and those of its properties.
 ///
 /// - `Damaged`: the rows are not those of a resource.
@@ -121,16 +142,18 @@ pub(crate) fn load_one(
     let version = unsigned(row.version)?;
     let created = unsigned(row.created)?;
     let modified = unsigned(row.modified)?;
+    let (name, media_type) = split_cell(row.name.as_str());
     Ok(NumberedValue {
         number: unsigned(row.number)? as usize,
         above: unsigned(row.parent)? as usize,
-        name: row.name.clone()?,
+        name: String::from_str(alloc, name)?,
         value: Entry {
             content,
             version,
             created,
             modified,
             properties,
+            media_type: shared(alloc, media_type)?,
         },
     })
 }

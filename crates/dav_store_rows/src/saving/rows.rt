@@ -7,7 +7,7 @@ ghost use Rattle.dav_cells.specs.Pieces.{pieces_codec};
 ghost use Rattle.dav_nodes.specs.Rows.{row_in};
 ghost use Rattle.dav_rows.specs.Changes.{resource_entry, extent_entry, property_entry};
 ghost use Rattle.dav_store_rows.specs.Parts.{MOST, part_key};
-ghost use Rattle.dav_store_rows.specs.Resources.{resource_values, extent_values, property_values};
+ghost use Rattle.dav_store_rows.specs.Resources.{name_cell, resource_values, extent_values, property_values};
 ghost use Rattle.dav_store_rows.specs.SaveErrors.{FailsUnless, HasPartKeys, FitsRow, IsFlat};
 
 use crate::SaveError;
@@ -15,7 +15,7 @@ use crate::part_key::key_of_part;
 use dav_cells::{CellError, encode_element, encode_pieces};
 use dav_nodes::PlacedValue;
 use dav_pieces::{Body, Piece};
-use dav_resource::Element;
+use dav_resource::{Element, SharedText};
 use dav_rows::{ExtentRow, PropertyRow, ResourceRow};
 use dav_tree::{Content, Entry};
 use std::alloc::{AllocError, Global};
@@ -41,13 +41,29 @@ pub(super) fn resource_row(
     Ok(ResourceRow {
         number: i64::try_from(number)?,
         parent: i64::try_from(placed.above)?,
-        name: String::from_str(alloc, placed.name.unwrap_or(""))?,
+        name: name_cell(alloc, placed.name.unwrap_or(""), entry.media_type.as_ref())?,
         directory,
         size: i64::try_from(size)?,
         version: i64::try_from(entry.version)?,
         created: i64::try_from(entry.created)?,
         modified: i64::try_from(entry.modified)?,
     })
+}
+
+/// Returns the name of a resource as its cell has it: behind it, a slash and the media type that is kept, if there is one.
+/// Fails only if memory runs out.
+fn name_cell(
+    alloc: Global,
+    name: &str,
+    media_type: Option<&SharedText>,
+) -> Result<String, AllocError>
+    ensures { IfOk result (λ cell. string_bytes cell ≡ name_cell name.now (option_copied media_type.entry)) }
+{
+    let Some(media_type) = media_type else {
+        return String::from_str(alloc, name);
+    };
+    let media_type = media_type.as_str();
+    format!(in alloc; "{name}/{media_type}")
 }
 
 /// Returns the row of some pieces of a file, the first of which begins at a place of the file.

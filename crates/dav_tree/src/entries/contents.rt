@@ -5,7 +5,7 @@ ghost use Rattle.dav_key.specs.Key.{parent};
 ghost use Rattle.dav_store.specs.BodyCalls.{stored_bytes};
 ghost use Rattle.dav_resource.specs.declared.error.FsError.{FsError};
 ghost use Rattle.dav_tree.specs.Bodies.{FailsFor};
-ghost use Rattle.dav_tree.specs.Memory.{with_bytes, wrote};
+ghost use Rattle.dav_tree.specs.Memory.{emptied, wrote};
 ghost use Rattle.dav_tree.specs.KeptCalls.{IsUnchanged, IsChangedAt, ChangesAt, CopiesOver, CopiesNew, ReadsFrom, ReadsCount};
 ghost use Rattle.dav_tree.specs.Kept.{held_of, IsNumber, IsFileNumber, IsAbsent, KeepsNumbers};
 
@@ -13,7 +13,7 @@ use super::{Entries, entry_at, take};
 use crate::entry::{self, Content};
 use crate::medium::Medium;
 use dav_key::FlatKey;
-use dav_resource::{BodyNumber, FsResult};
+use dav_resource::{BodyNumber, FsResult, SharedText};
 
 impl<M: Medium> Entries<M> {
     /// Returns bytes of the file with a number, as `Medium::read` does. Returns `Memory` if memory runs out,
@@ -102,14 +102,21 @@ impl<M: Medium> Entries<M> {
         answer
     }
 
-    /// Truncates the file with a number to no bytes, as change number `version` at time `now`.
-    pub fn truncate(&mut self, number: usize, version: u64, now: u64)
+    /// Truncates the file with a number to no bytes, and gives it this media type, as change number `version` at time `now`.
+    pub fn truncate(
+        &mut self,
+        number: usize,
+        media_type: Option<SharedText>,
+        version: u64,
+        now: u64,
+    )
         requires { IsFileNumber self.old number }
-        ensures { IsChangedAt number (with_bytes [] version now) self.old self.new }
+        ensures { IsChangedAt number (emptied media_type version now) self.old self.new }
     {
         let mut entry = take(self.alloc, &mut self.tree, number);
         let before = entry::len(&self.medium, &entry.content) as u128;
         entry.content = Content::File(self.medium.empty(self.alloc));
+        entry.media_type = media_type;
         entry.version = version;
         entry.modified = now;
         self.tree.exchange(number, &mut entry);

@@ -10,7 +10,9 @@ ghost use Rattle.dav_tree.specs.MemoryCalls.{kept, read_bytes_error, open_error,
 use super::TreeFs;
 use crate::entries::{Entries, Place};
 use crate::medium::Medium;
-use dav_resource::{BodyNumber, DavFile, DavPath, FsError, FsResult, Meta, OpenOptions};
+use dav_resource::{
+    BodyNumber, DavFile, DavPath, FsError, FsResult, Meta, OpenOptions, SharedText,
+};
 
 impl<M: Medium> TreeFs<M> {
     pub(super) fn open_file(&mut self, path: &DavPath, options: &OpenOptions) -> FsResult<DavFile>
@@ -30,8 +32,8 @@ impl<M: Medium> TreeFs<M> {
         Ok(file)
     }
 
-    /// Opens the existing resource at a path, and truncates it if the options say so, which counts as a
-    /// change. Returns `Exists` if the options require a new file, and `Forbidden` if the resource is a
+    /// Opens the existing resource at a path. If the options say so, truncates it and gives it their media type, which
+    /// counts as a change. Returns `Exists` if the options require a new file, and `Forbidden` if the resource is a
     /// directory.
     fn open_old(&mut self, path: &DavPath, place: Place, options: &OpenOptions) -> FsResult<()>
         requires { IsFound self.old.entries path.now.key place.number place.directory }
@@ -45,14 +47,17 @@ impl<M: Medium> TreeFs<M> {
             return Err(FsError::Forbidden);
         }
         if options.truncate {
+            let media_type = SharedText::cloned(&options.media_type)?;
             let version = self.next_version()?;
-            self.entries.truncate(place.number, version, self.moment);
+            self.entries
+                .truncate(place.number, media_type, version, self.moment);
             self.version = version;
         }
         Ok(())
     }
 
-    /// Creates the file to be opened at a path where nothing exists, which counts as a change. Returns
+    /// Creates the file to be opened at a path where nothing exists, with the media type of the options, which counts as a
+    /// change. Returns
     /// `NotFound` if the parent is not a directory, or if the options do not allow creation.
     fn open_new(&mut self, path: &DavPath, options: &OpenOptions) -> FsResult<()>
         requires { IsAbsent self.old.entries path.now.key }
@@ -65,8 +70,10 @@ impl<M: Medium> TreeFs<M> {
         if !may_make(options) {
             return Err(FsError::NotFound);
         }
+        let media_type = SharedText::cloned(&options.media_type)?;
         let version = self.member_version()?;
-        self.entries.add_file(path.key(), version, self.moment)?;
+        self.entries
+            .add_file(path.key(), media_type, version, self.moment)?;
         self.version = version;
         self.mark(above);
         Ok(())
