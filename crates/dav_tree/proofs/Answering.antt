@@ -23,17 +23,17 @@ use Rattle.dav_resource.specs.declared.error.FsError.TheVariants.{NotImplemented
 use Rattle.dav_key.specs.Below.{put_at, is_below, IsMoved}
 use Rattle.dav_key.specs.EachLaws.{each-put_at, each-IsMoved, get-put_at, put_at-same}
 use Rattle.dav_store.specs.Logged.{logged_of}
-use Rattle.dav_store.specs.Store.{Node, File, Directory, Quota, Contents, Store}
-use Rattle.dav_store.specs.Calls.{Call, Answers, Declines, IsLawful, IsOwn, error_of, limit_of, create_dir_bar, open_bar, file_bar, bytes_at, must_be_file, IsMadeAt, IsOpened, IsWritten}
+use Rattle.dav_store.specs.Store.{Node, File, Directory, Types, Quota, Contents, Store}
+use Rattle.dav_store.specs.Calls.{Call, Answers, Declines, IsLawful, IsOwn, error_of, limit_of, create_dir_bar, open_bar, file_bar, bytes_at, opened_types, must_be_file, IsMadeAt, IsOpened, IsWritten}
 use Rattle.dav_store.specs.Members.{remove_dir_bar, read_dir_bar, IsRemovedAt}
 use Rattle.dav_store.specs.Transfers.{copy_bar, rename_bar, IsCopiedTo, IsRenamedTo}
 use Rattle.dav_store.specs.PropertyCalls.{Patch, HasTimes, set_modified, set_created, patched, some_properties, properties_at, get_prop_bar, properties_bar, get_quota_bar, IsPatchedAt, ArePropertiesAt, PatchesProps, patch_props_call}
 use Rattle.dav_tree.specs.Memory as memory
-use Rattle.dav_tree.specs.Memory.{Stored, Resources, tree_of, properties_of, meta_of, contents_of, seen_of, change_at, with_bytes, patched_by, copy_of, fresh, facts_of, facts_by, made, filled, without, copied, with_patches, marked, added, removed, marked_by_copy, copied_into, IsRenamed, IsRenamedAndMarked}
+use Rattle.dav_tree.specs.Memory.{Stored, Resources, tree_of, properties_of, types_of, meta_of, contents_of, seen_of, change_at, with_bytes, patched_by, copy_of, fresh_file, facts_of, facts_by, made, made_as, emptied, emptied_at, without, copied, with_patches, marked, added, removed, marked_by_copy, copied_into, IsRenamed, IsRenamedAndMarked}
 use Rattle.dav_tree.specs.MemoryCalls.{IsDue, YieldsOver, Yields, Gives, Records, RecordsWith, outcome_of, change_error, has_room, mark_error, member_error, error_of_copy, open_error, error_of_opening, opened, opened_from, file_error, write_error, written, copy_error, properties_error, IsPropertyList}
 use Rattle.dav_store.specs.Logged.{record_with}
-use Rattle.dav_tree.specs.Lawful.{node_in, get-tree, get-properties}
-use Rattle.dav_tree.specs.MarkingLaws.{marked-tree, marked-properties, marked-limit, marked-facts}
+use Rattle.dav_tree.specs.Lawful.{node_in, get-tree, get-properties, get-types}
+use Rattle.dav_tree.specs.MarkingLaws.{marked-tree, marked-properties, marked-types, marked-limit, marked-facts}
 
 -- ---- errors
 
@@ -287,17 +287,32 @@ no_limit_change old new same = recorded new ∙ same ∙ sym (recorded old)
     recorded m = by m.limit _
 
 -- nothing stood at the key, so nothing has to be said of its properties
-unchanged : (resources : Resources) (key : Key) (node : Node) (version now : ℕ) → get resources key ≡ None → properties_of (insert resources key (fresh node version now)) ≡ properties_of resources
-unchanged resources key node version now none =
-    properties-put resources key (fresh node version now) ∙ ap (put_at (properties_of resources) key) no_properties
+unchanged : (resources : Resources) (key : Key) (s : Stored) → s.properties ≡ empty → get resources key ≡ None → properties_of (insert resources key s) ≡ properties_of resources
+unchanged resources key s bare none =
+    properties-put resources key s ∙ ap (λ p. put_at (properties_of resources) key (some_properties p)) bare ∙ ap (put_at (properties_of resources) key) no_properties
     ∙ put_at-same (properties_of resources) key None (get-properties resources key ∙ ap (option_and_then (λ s. some_properties s.properties)) none)
+
+-- a key has a resource with this media type
+types-put : (resources : Resources) (key : Key) (s : Stored) → types_of (insert resources key s) ≡ put_at (types_of resources) key s.media_type
+types-put resources key s = each-put_at (λ (s : Stored). s.media_type) resources key (Some s)
+
+-- nothing stood at the key, and what is put there has no media type
+untyped : (resources : Resources) (key : Key) (s : Stored) → s.media_type ≡ None → get resources key ≡ None → types_of (insert resources key s) ≡ types_of resources
+untyped resources key s bare none =
+    types-put resources key s ∙ ap (put_at (types_of resources) key) bare
+    ∙ put_at-same (types_of resources) key None (get-types resources key ∙ ap (option_and_then (λ (s : Stored). s.media_type)) none)
+
+-- the media types, as the engine sees them
+abbrev some_types : memory.Memory → Option Types
+some_types m = Some (types_of m.resources)
 
 pub makes : (key : Key) (old new : memory.Memory) → create_dir_bar (get (tree_of old.resources) key) (get (tree_of old.resources) (parent key)) ≡ None → new ≡ made key Directory old → IsMadeAt key (contents_of old) (contents_of new)
 makes key old new free is =
     let none = nothing_kept (get old.resources key) (sym (get-tree old.resources key) ∙ free_bar _ (get (tree_of old.resources) (parent key)) free) in
     record {
       tree = ap (λ (m : memory.Memory). tree_of m.resources) is ∙ tree-put old.resources key _;
-      properties = ap (λ (m : memory.Memory). properties_of m.resources) is ∙ unchanged old.resources key Directory _ _ none;
+      properties = ap (λ (m : memory.Memory). properties_of m.resources) is ∙ unchanged old.resources key _ refl none;
+      types = ap some_types is ∙ ap Some (untyped old.resources key _ refl none);
       limit = no_limit_change old new (ap (λ (m : memory.Memory). m.limit) is);
     }
 
@@ -310,6 +325,7 @@ adds key old new free is =
     record {
       tree = ap (λ (m : memory.Memory). tree_of m.resources) is ∙ marked-tree (parent key) between ∙ all.tree;
       properties = ap (λ (m : memory.Memory). properties_of m.resources) is ∙ marked-properties (parent key) between ∙ all.properties;
+      types = ap some_types is ∙ ap Some (marked-types (parent key) between) ∙ all.types;
       limit = no_limit_change between new (ap (λ (m : memory.Memory). m.limit) is ∙ marked-limit (parent key) between) ∙ all.limit;
     }
 
@@ -321,6 +337,11 @@ pub changed-properties : (resources : Resources) (key : Key) (change : Stored �
 changed-properties resources key change s here same =
     ap (λ o. properties_of (put_at resources key (option_map change o))) here ∙ properties-put resources key (change s) ∙ ap (λ p. put_at (properties_of resources) key (some_properties p)) same
     ∙ put_at-same (properties_of resources) key _ (get-properties resources key ∙ ap (option_and_then (λ s. some_properties s.properties)) here)
+
+pub changed-types : (resources : Resources) (key : Key) (change : Stored → Stored) (s : Stored) → get resources key ≡ Some s → (change s).media_type ≡ s.media_type → types_of (change_at key change resources) ≡ types_of resources
+changed-types resources key change s here same =
+    ap (λ o. types_of (put_at resources key (option_map change o))) here ∙ types-put resources key (change s) ∙ ap (put_at (types_of resources) key) same
+    ∙ put_at-same (types_of resources) key _ (get-types resources key ∙ ap (option_and_then (λ (s : Stored). s.media_type)) here)
 
 empty_either : (t : Bool) → (if t then [] else bytes_at None) ≡ []
 empty_either true = refl
@@ -353,28 +374,38 @@ opening-law options (Some s) bar old e row is = either_law options.truncate bar 
 
 tree-opened : (options : OpenOptions) (key : Key) (old : memory.Memory) (above : Option Node) (o : Option Stored) → get old.resources key ≡ o → open_bar options (option_map node_in o) above ≡ None
     → tree_of (opened_from options key o old).resources ≡ insert (tree_of old.resources) key (File (if options.truncate then [] else bytes_at (option_map node_in o)))
-tree-opened options key old above None here free = marked-tree (parent key) (made key (File []) old) ∙ tree-put old.resources key _ ∙ ap (λ b. insert (tree_of old.resources) key (File b)) (sym (empty_either options.truncate))
+tree-opened options key old above None here free = marked-tree (parent key) (made_as key (fresh_file options.media_type) old) ∙ tree-put old.resources key _ ∙ ap (λ b. insert (tree_of old.resources) key (File b)) (sym (empty_either options.truncate))
 tree-opened options key old above (Some s) here free =
-    elim options.truncate as (λ t. tree_of (if t then filled key [] old else old).resources ≡ insert (tree_of old.resources) key (File (if t then [] else bytes_at (Some s.node)))) [
-      | true ↦ changed-tree old.resources key (with_bytes [] (old.version + 1) old.moment) s here
+    elim options.truncate as (λ t. tree_of (if t then emptied_at key options.media_type old else old).resources ≡ insert (tree_of old.resources) key (File (if t then [] else bytes_at (Some s.node)))) [
+      | true ↦ changed-tree old.resources key (emptied options.media_type (old.version + 1) old.moment) s here
       | false ↦ sym (put_at-same (tree_of old.resources) key (Some (File (bytes_at (Some s.node)))) (get-tree old.resources key ∙ ap (option_map node_in) here ∙ ap Some (open_file_node options s.node above free)))
     ]
 
 properties-opened : (options : OpenOptions) (key : Key) (old : memory.Memory) (o : Option Stored) → get old.resources key ≡ o → properties_of (opened_from options key o old).resources ≡ properties_of old.resources
-properties-opened options key old None here = marked-properties (parent key) (made key (File []) old) ∙ unchanged old.resources key (File []) (old.version + 1) old.moment here
+properties-opened options key old None here = marked-properties (parent key) (made_as key (fresh_file options.media_type) old) ∙ unchanged old.resources key (fresh_file options.media_type (old.version + 1) old.moment) refl here
 properties-opened options key old (Some s) here =
-    elim options.truncate as (λ t. properties_of (if t then filled key [] old else old).resources ≡ properties_of old.resources) [
-      | true ↦ changed-properties old.resources key (with_bytes [] (old.version + 1) old.moment) s here refl
+    elim options.truncate as (λ t. properties_of (if t then emptied_at key options.media_type old else old).resources ≡ properties_of old.resources) [
+      | true ↦ changed-properties old.resources key (emptied options.media_type (old.version + 1) old.moment) s here refl
+      | false ↦ refl
+    ]
+
+types-opened : (options : OpenOptions) (key : Key) (old : memory.Memory) (o : Option Stored) → get old.resources key ≡ o
+    → types_of (opened_from options key o old).resources ≡ opened_types options key (option_map node_in o) (types_of old.resources)
+types-opened options key old None here = marked-types (parent key) (made_as key (fresh_file options.media_type) old) ∙ types-put old.resources key (fresh_file options.media_type (old.version + 1) old.moment)
+types-opened options key old (Some s) here =
+    let change = emptied options.media_type (old.version + 1) old.moment in
+    elim options.truncate as (λ t. types_of (if t then emptied_at key options.media_type old else old).resources ≡ (if t then put_at (types_of old.resources) key options.media_type else types_of old.resources)) [
+      | true ↦ ap (λ o. types_of (put_at old.resources key (option_map change o))) here ∙ types-put old.resources key (change s)
       | false ↦ refl
     ]
 
 pub facts-opened : (options : OpenOptions) (key : Key) (old : memory.Memory) (o : Option Stored) → facts_of (opened_from options key o old) ≡ facts_of old
-facts-opened options key old None = marked-facts (parent key) (made key (File []) old)
-facts-opened options key old (Some s) = elim options.truncate as (λ t. facts_of (if t then filled key [] old else old) ≡ facts_of old) [ true ↦ refl | false ↦ refl ]
+facts-opened options key old None = marked-facts (parent key) (made_as key (fresh_file options.media_type) old)
+facts-opened options key old (Some s) = elim options.truncate as (λ t. facts_of (if t then emptied_at key options.media_type old else old) ≡ facts_of old) [ true ↦ refl | false ↦ refl ]
 
 limit-opened : (options : OpenOptions) (key : Key) (old : memory.Memory) (o : Option Stored) → (opened_from options key o old).limit ≡ old.limit
-limit-opened options key old None = marked-limit (parent key) (made key (File []) old)
-limit-opened options key old (Some s) = elim options.truncate as (λ t. (if t then filled key [] old else old).limit ≡ old.limit) [ true ↦ refl | false ↦ refl ]
+limit-opened options key old None = marked-limit (parent key) (made_as key (fresh_file options.media_type) old)
+limit-opened options key old (Some s) = elim options.truncate as (λ t. (if t then emptied_at key options.media_type old else old).limit ≡ old.limit) [ true ↦ refl | false ↦ refl ]
 
 pub opens : (path : PathValue) (options : OpenOptions) (file : DavFile) (old new : memory.Memory) → file ≡ record { path = path; pos = 0; append = options.append }
     → open_error options path.key old ≡ None → new ≡ opened options path.key old → IsOpened path options file (contents_of old) (contents_of new)
@@ -384,6 +415,8 @@ opens path options file old new is none becomes = record {
       (ap (λ n. open_bar options n (get (tree_of old.resources) (parent path.key))) (sym (get-tree old.resources path.key)) ∙ opening-none options (get old.resources path.key) _ old none)
       ∙ ap (λ n. insert (tree_of old.resources) path.key (File (if options.truncate then [] else bytes_at n))) (sym (get-tree old.resources path.key));
   properties = ap (λ (m : memory.Memory). properties_of m.resources) becomes ∙ properties-opened options path.key old (get old.resources path.key) refl;
+  types = ap some_types becomes ∙ ap Some (types-opened options path.key old (get old.resources path.key) refl
+      ∙ ap (λ n. opened_types options path.key n (types_of old.resources)) (sym (get-tree old.resources path.key)));
   limit = no_limit_change old new (ap (λ (m : memory.Memory). m.limit) becomes ∙ limit-opened options path.key old (get old.resources path.key));
 }
 
@@ -397,6 +430,7 @@ writes file more old new none is =
     record {
       tree = ap (λ (m : memory.Memory). tree_of m.resources) is ∙ changed-tree old.resources file.path.key (with_bytes _ (old.version + 1) old.moment) kept.0 kept.1;
       properties = ap (λ (m : memory.Memory). properties_of m.resources) is ∙ changed-properties old.resources file.path.key (with_bytes _ (old.version + 1) old.moment) kept.0 kept.1 refl;
+      types = ap some_types is ∙ ap Some (changed-types old.resources file.path.key (with_bytes _ (old.version + 1) old.moment) kept.0 kept.1 refl);
       limit = no_limit_change old new (ap (λ (m : memory.Memory). m.limit) is);
     }
 
@@ -404,6 +438,7 @@ pub removes : (key : Key) (old new : memory.Memory) → new ≡ without key old 
 removes key old new is = record {
   tree = ap (λ (m : memory.Memory). tree_of m.resources) is ∙ each-put_at (λ s. Some s.node) old.resources key None;
   properties = ap (λ (m : memory.Memory). properties_of m.resources) is ∙ each-put_at (λ s. some_properties s.properties) old.resources key None;
+  types = ap some_types is ∙ ap Some (each-put_at (λ (s : Stored). s.media_type) old.resources key None);
   limit = no_limit_change old new (ap (λ (m : memory.Memory). m.limit) is);
 }
 
@@ -415,6 +450,7 @@ takes key old new is =
     record {
       tree = ap (λ (m : memory.Memory). tree_of m.resources) is ∙ marked-tree (parent key) between ∙ all.tree;
       properties = ap (λ (m : memory.Memory). properties_of m.resources) is ∙ marked-properties (parent key) between ∙ all.properties;
+      types = ap some_types is ∙ ap Some (marked-types (parent key) between) ∙ all.types;
       limit = no_limit_change between new (ap (λ (m : memory.Memory). m.limit) is ∙ marked-limit (parent key) between) ∙ all.limit;
     }
 
@@ -459,6 +495,10 @@ copies from to old new none is =
           ∙ ap (λ o. properties_of (put_at old.resources to (option_map (copy_of (get old.resources to) (old.version + 1) old.moment) o))) here
           ∙ properties-put old.resources to copy
           ∙ ap (put_at (properties_of old.resources) to) (sym (get-properties old.resources from ∙ ap (option_and_then (λ s. some_properties s.properties)) here));
+      types = ap some_types is
+          ∙ ap (λ o. Some (types_of (put_at old.resources to (option_map (copy_of (get old.resources to) (old.version + 1) old.moment) o)))) here
+          ∙ ap Some (types-put old.resources to copy
+              ∙ ap (put_at (types_of old.resources) to) (sym (get-types old.resources from ∙ ap (option_and_then (λ (s : Stored). s.media_type)) here)));
       limit = no_limit_change old new (ap (λ (m : memory.Memory). m.limit) is);
     }
 
@@ -470,6 +510,7 @@ copies-into from to old new none is =
     subst (λ (m : memory.Memory). IsCopiedTo from to (contents_of old) (contents_of m)) (sym is) (by-copy (λ m. IsCopiedTo from to (contents_of old) (contents_of m)) (get old.resources to) to between (record {
       tree = marked-tree (parent to) between ∙ all.tree;
       properties = marked-properties (parent to) between ∙ all.properties;
+      types = ap Some (marked-types (parent to) between) ∙ all.types;
       limit = no_limit_change between (marked (parent to) between) (marked-limit (parent to) between) ∙ all.limit;
     }) all)
 
@@ -477,6 +518,7 @@ pub renames : (from to : Key) (old new : memory.Memory) → IsRenamed from to ol
 renames from to old new r = record {
   tree = each-IsMoved (λ s. Some s.node) from to old.resources new.resources r.resources;
   properties = each-IsMoved (λ s. some_properties s.properties) from to old.resources new.resources r.resources;
+  types = each-IsMoved (λ (s : Stored). s.media_type) from to old.resources new.resources r.resources;
   limit = no_limit_change old new r.limit;
 }
 
@@ -485,6 +527,7 @@ renamed_marked : (from to key : Key) (old new : memory.Memory) → IsRenamedTo f
 renamed_marked from to key old new all = record {
   tree = subst (IsMoved from to (tree_of old.resources)) (sym (marked-tree key new)) all.tree;
   properties = subst (IsMoved from to (properties_of old.resources)) (sym (marked-properties key new)) all.properties;
+  types = subst (IsMoved from to (types_of old.resources)) (sym (marked-types key new)) all.types;
   limit = no_limit_change new (marked key new) (marked-limit key new) ∙ all.limit;
 }
 
@@ -543,6 +586,7 @@ patches_at key patches old new none is =
           ∙ put_at-same (tree_of old.resources) key (Some s.node) (get-tree old.resources key ∙ ap (option_map node_in) here);
       properties = ap (λ (m : memory.Memory). properties_of m.resources) is ∙ ap (λ o. properties_of (put_at old.resources key (option_map change o))) here ∙ properties-put old.resources key (change s)
           ∙ ap (λ p. put_at (properties_of old.resources) key (some_properties (patched patches p))) (sym (properties-kept old key ∙ ap (λ o. unwrap_or (option_map (λ s. s.properties) o) empty) here));
+      types = ap some_types is ∙ ap Some (changed-types old.resources key change s here refl);
       times = subst (HasTimes patches) (sym (meta_there new key (change s) there)) (patched_times patches new.tag_part s);
       limit = no_limit_change old new (ap (λ (m : memory.Memory). m.limit) is);
     }

@@ -20,7 +20,7 @@ use Rattle.dav_nodes.specs.Tree.{Tree}
 use Rattle.dav_store.specs.Store.{File, Bodies}
 use Rattle.dav_store.specs.Calls.{written_at}
 use Rattle.dav_store.specs.BodyCalls.{stored_bytes, put_body}
-use Rattle.dav_tree.specs.Memory.{Stored, Resources, Held, is_directory, size_of, used_by, fresh, asked}
+use Rattle.dav_tree.specs.Memory.{Stored, Resources, Held, is_directory, size_of, used_by, fresh, fresh_file, asked}
 use Rattle.dav_key.specs.EachLaws.{get-each-some}
 use Rattle.dav_tree.specs.Entry.{node_by, stored_by, is_held, is_file}
 use Rattle.dav_tree.specs.Kept.{Kept, Rest, kept_by, resources_by, bodies_by, held_of, AreHeld, AreStored, AreKept, IsAt, IsFound, IsAbsent, Has}
@@ -132,9 +132,17 @@ content-small bytes holds small (contents.File body) held = small body held
 content-small bytes holds small contents.Directory held = omega arith
 
 -- the resource of a new entry
-pub stored-fresh : {B : Type 0} (bytes : B → List ℕ) (e : Entry B) (content : Content B) (version now : ℕ) → e.content ≡ content → e.version ≡ version → e.created ≡ now → e.modified ≡ now → e.properties ≡ empty
+pub stored-fresh : {B : Type 0} (bytes : B → List ℕ) (e : Entry B) (content : Content B) (version now : ℕ) → e.content ≡ content → e.version ≡ version → e.created ≡ now → e.modified ≡ now → e.properties ≡ empty → e.media_type ≡ None
     → stored_by bytes e ≡ fresh (node_by bytes content) version now
-stored-fresh bytes e content version now c v a m p = λ i. record { node = node_by bytes (c i); version = v i; created = a i; modified = m i; properties = p i }
+stored-fresh bytes e content version now c v a m p t =
+    λ i. record { node = node_by bytes (c i); version = v i; created = a i; modified = m i; properties = p i; media_type = t i }
+
+-- the resource of a new file with a media type
+pub stored-fresh_file : {B : Type 0} (bytes : B → List ℕ) (e : Entry B) (body : B) (media_type : Option (List ℕ)) (version now : ℕ) → e.content ≡ contents.File body → bytes body ≡ []
+    → e.version ≡ version → e.created ≡ now → e.modified ≡ now → e.properties ≡ empty → stored_by bytes (record e { media_type = media_type }) ≡ fresh_file media_type version now
+stored-fresh_file bytes e body media_type version now c none v a m p =
+    (λ i. record { node = node_by bytes (c i); version = v i; created = a i; modified = m i; properties = p i; media_type = media_type })
+    ∙ ap (λ (bs : List ℕ). record (fresh (File bs) version now) { media_type = media_type }) none
 
 -- ---- a change of the medium that keeps all bodies that it holds
 
@@ -148,7 +156,7 @@ module _ {B : Type 0} (b0 b1 : B → List ℕ) (h0 h1 : B → Bool) (keeps : (bo
   held-content contents.Directory held = refl
 
   pub same-stored : (e : Entry B) → is_held h0 e.content ≡ true → stored_by b1 e ≡ stored_by b0 e
-  same-stored e held = λ i. record { node = same_content e.content held i; version = e.version; created = e.created; modified = e.modified; properties = e.properties }
+  same-stored e held = λ i. record { node = same_content e.content held i; version = e.version; created = e.created; modified = e.modified; properties = e.properties; media_type = e.media_type }
 
   same_found : (o : Option (Entry B)) → ((e : Entry B) → o ≡ Some e → is_held h0 e.content ≡ true) → option_map (stored_by b1) o ≡ option_map (stored_by b0) o
   same_found None held = refl

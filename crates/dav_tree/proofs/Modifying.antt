@@ -14,7 +14,7 @@ use Rattle.dav_tree.specs.Lawful.{node_in, get-tree}
 use Rattle.dav_tree.specs.Memory as memory
 use Rattle.dav_tree.specs.Memory.{Stored, Resources, tree_of, size_of, used_by, meta_of, change_at, contents_of, seen_of, with_modified, modified_at}
 use Rattle.dav_tree.specs.Modified.{modified_meta, modified_metas, SetsModified}
-use Rattle.dav_tree.proofs.Answering.{changed-tree, changed-properties}
+use Rattle.dav_tree.proofs.Answering.{changed-tree, changed-properties, changed-types}
 
 sizes-nodes : (es : List (Key × Stored)) → map (λ e. size_of e.1.node) es ≡ map (λ (e : Key × Node). size_of e.1) (map (λ e. (e.0, node_in e.1)) es)
 sizes-nodes [] = refl
@@ -55,6 +55,7 @@ module _ (old : memory.Memory) (key : Key) (time : ℕ) (s : Stored) (here : get
       record {
         tree = tree-modified i;
         properties = changed-properties old.resources key (with_modified time) s here refl i;
+        types = Some (changed-types old.resources key (with_modified time) s here refl i);
         metas = fun_ext (λ other. metas-modified old.tag_part old.resources key other time) i;
         quota = option_map (λ total. record { used = min (used-modified i) (2 ^ 64 - 1); total = total }) old.limit;
       }

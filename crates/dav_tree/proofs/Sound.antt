@@ -17,7 +17,7 @@ use Rattle.dav_store.specs.MemberLaws.{parent-below, member-parent, parent-membe
 use Rattle.dav_store.specs.Transfers.{IsMoved}
 use Rattle.dav_key.specs.EachLaws.{get-put_at, each-put_at, each-IsMoved, put_at-same}
 use Rattle.dav_tree.specs.Lawful.{node_in, get-tree}
-use Rattle.dav_tree.specs.Memory.{Stored, Resources, tree_of, IsSound, is_directory, change_at, with_bytes, patched_by}
+use Rattle.dav_tree.specs.Memory.{Stored, Resources, tree_of, IsSound, is_directory, change_at, with_bytes, emptied, patched_by}
 use Rattle.dav_tree.proofs.Answering.{tree-put, changed-tree}
 use Rattle.dav_tree.proofs.Named.{named-empty, named-patched}
 
@@ -111,6 +111,15 @@ sound-filled old new key bytes version moment s sound is found file =
     sound-tree new _ (ap tree_of is ∙ changed-tree old key (with_bytes bytes version moment) s found)
     (sound-insert old key (File bytes) sound (sound.keys key (not_none _ s.node here)) (sound.parents key (not_none _ s.node here)) (λ e. no_directory s.node file (sym here ∙ e)))
     (named-changed old new key (with_bytes bytes version moment) sound.named is (λ t named. named))
+
+-- a file loses its bytes
+pub sound-emptied : (old new : Resources) (key : Key) (media_type : Option (List ℕ)) (version moment : ℕ) (s : Stored) → IsSound old → new ≡ change_at key (emptied media_type version moment) old
+    → get old key ≡ Some s → is_directory s.node ≡ false → IsSound new
+sound-emptied old new key media_type version moment s sound is found file =
+    let here = some_at old key s found in
+    sound-tree new _ (ap tree_of is ∙ changed-tree old key (emptied media_type version moment) s found)
+    (sound-insert old key (File []) sound (sound.keys key (not_none _ s.node here)) (sound.parents key (not_none _ s.node here)) (λ e. no_directory s.node file (sym here ∙ e)))
+    (named-changed old new key (emptied media_type version moment) sound.named is (λ t named. named))
 
 -- a resource changes, and not what it contains
 pub sound-beside : (old new : Resources) (key : Key) (change : Stored → Stored) → ((s : Stored) → (change s).node ≡ s.node) → ((s : Stored) → AreNamed s.properties → AreNamed (change s).properties)

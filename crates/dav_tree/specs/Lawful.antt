@@ -8,10 +8,11 @@ use Rattle.std.proofs.lemmas.List.Folds.{list_all-append}
 use Rattle.std.specs.FinMap.{get, empty, len, len-empty}
 use Rattle.dav_key.specs.Key.{Key, key_cmp}
 use Rattle.dav_resource.specs.Tree as elements
+use Rattle.dav_resource.specs.declared.meta.Meta.{Meta}
 use Rattle.dav_store.specs.Logged.{Logged}
 use Rattle.dav_store.specs.Store.{Node, File, Directory, PropertyMap, IsWellFormed, AreNamed, MetaFits, IsTagText, is_tag_byte, StartsWith, HasTagFrom, AreTagged}
 use Rattle.dav_store.specs.PropertyCalls.{some_properties}
-use Rattle.dav_tree.specs.Memory.{Stored, Resources, Memory, tree_of, properties_of, meta_of, contents_of, IsSound, hexadecimal, sixteen_digits, tag_start, tag_text, seen_of, is_directory, size_of}
+use Rattle.dav_tree.specs.Memory.{Stored, Resources, Memory, tree_of, properties_of, types_of, meta_of, contents_of, IsSound, hexadecimal, sixteen_digits, tag_start, tag_text, seen_of, is_directory, size_of}
 use Rattle.dav_key.specs.EachLaws.{get-each}
 
 -- ---- the tree
@@ -61,6 +62,20 @@ named_kept : (o : Option Stored) → ((s : Stored) → o ≡ Some s → AreNamed
     → ForSome (option_and_then (λ s. some_properties s.properties) o) AreNamed
 named_kept None named properties e = absurd cc
 named_kept (Some s) named properties e = subst AreNamed (only_same s.properties properties e) (named s refl)
+
+-- ---- the media types
+
+-- a key's media type is that of the stored resource, if it has one
+pub get-types : (resources : Resources) (key : Key) → get (types_of resources) key ≡ option_and_then (λ (s : Stored). s.media_type) (get resources key)
+get-types resources key = get-each (λ (s : Stored). s.media_type) resources key
+
+no_type : (o : Option Stored) → option_map node_in o ≡ None → option_and_then (λ (s : Stored). s.media_type) o ≡ None
+no_type None e = refl
+no_type (Some s) e = absurd cc
+
+shown_type : (part : Option ℕ) (o : Option Stored) → ForSome (option_map (meta_of part) o) (λ (meta : Meta). meta.media_type ≡ option_and_then (λ (s : Stored). s.media_type) o)
+shown_type part None meta e = absurd cc
+shown_type part (Some s) meta e = let is : meta_of part s ≡ meta = cc in ap (λ (m : Meta). m.media_type) (sym is)
 
 -- ---- the metadata
 
@@ -128,4 +143,7 @@ is_well_formed memory sound = record {
   named = λ key. subst (λ o. ForSome o AreNamed) (sym (get-properties memory.resources key))
       (named_kept (get memory.resources key) (sound.named key));
   metas = λ key. subst (λ o. MetaFits o (option_map (meta_of memory.tag_part) (get memory.resources key))) (sym (get-tree memory.resources key)) (meta_fits memory.tag_part (get memory.resources key));
+  types = λ key none. get-types memory.resources key ∙ no_type (get memory.resources key) (sym (get-tree memory.resources key) ∙ none);
+  shown_types = λ key. subst (λ kept. ForSome (option_map (meta_of memory.tag_part) (get memory.resources key)) (λ (meta : Meta). meta.media_type ≡ kept)) (sym (get-types memory.resources key))
+      (shown_type memory.tag_part (get memory.resources key));
 }

@@ -7,8 +7,8 @@ use Rattle.dav_key.specs.Key.{Key, key_cmp, tied_decides}
 use Rattle.dav_key.specs.Below.{put_at}
 use Rattle.dav_key.specs.EachLaws.{get-put_at, each-put_at, put_at-same}
 use Rattle.dav_store.specs.PropertyCalls.{some_properties}
-use Rattle.dav_tree.specs.Lawful.{node_in, get-tree, get-properties}
-use Rattle.dav_tree.specs.Memory.{Stored, Resources, Memory, tree_of, properties_of, contents_of, facts_of, meta_of, touched, change_at, with_mark, marked}
+use Rattle.dav_tree.specs.Lawful.{node_in, get-tree, get-properties, get-types}
+use Rattle.dav_tree.specs.Memory.{Stored, Resources, Memory, tree_of, properties_of, types_of, contents_of, facts_of, meta_of, touched, change_at, with_mark, marked}
 
 -- ---- a change of one resource
 
@@ -32,6 +32,10 @@ module _ (version now : ℕ) where
   same_properties None = refl
   same_properties (Some s) = refl
 
+  same_type : (o : Option Stored) → option_and_then (λ (s : Stored). s.media_type) o ≡ option_and_then (λ (s : Stored). s.media_type) (option_map (touched version now) o)
+  same_type None = refl
+  same_type (Some s) = refl
+
   module _ (key : Key) (resources : Resources) where
     pub touched-tree : tree_of (change_at key (touched version now) resources) ≡ tree_of resources
     touched-tree =
@@ -42,6 +46,11 @@ module _ (version now : ℕ) where
     touched-properties =
         each-put_at (λ s. some_properties s.properties) resources key (option_map (touched version now) (get resources key))
         ∙ put_at-same (properties_of resources) key _ (get-properties resources key ∙ same_properties (get resources key))
+
+    pub touched-types : types_of (change_at key (touched version now) resources) ≡ types_of resources
+    touched-types =
+        each-put_at (λ s. s.media_type) resources key (option_map (touched version now) (get resources key))
+        ∙ put_at-same (types_of resources) key _ (get-types resources key ∙ same_type (get resources key))
 
 -- ---- what a mark leaves as it is
 
@@ -69,13 +78,16 @@ module _ (key : Key) (old : Memory) where
       marked-part : (marked key old).tag_part ≡ old.tag_part
       marked-part = either_marked (λ m. m.tag_part ≡ old.tag_part) refl refl
 
-  -- nor does what any resource contains, or its properties
+  -- nor does what any resource contains, or its properties, or its media type
   pub marked-tree : tree_of (marked key old).resources ≡ tree_of old.resources
   marked-tree = either_marked (λ m. tree_of m.resources ≡ tree_of old.resources) (touched-tree (old.version + 1) old.moment key old.resources) refl
 
   pub marked-properties : properties_of (marked key old).resources ≡ properties_of old.resources
   marked-properties =
       either_marked (λ m. properties_of m.resources ≡ properties_of old.resources) (touched-properties (old.version + 1) old.moment key old.resources) refl
+
+  pub marked-types : types_of (marked key old).resources ≡ types_of old.resources
+  marked-types = either_marked (λ m. types_of m.resources ≡ types_of old.resources) (touched-types (old.version + 1) old.moment key old.resources) refl
 
   pub marked-limit : (marked key old).limit ≡ old.limit
   marked-limit = either_marked (λ m. m.limit ≡ old.limit) refl refl

@@ -27,4 +27,4 @@ pub returns-clause-ok : goal.returns-clause-ok
 returns-clause-ok g c =
     let f = c.self.inside in let b = g.M.Medium.bytes f.medium in let h = g.M.Medium.holds f.medium in
     added-has b b h h (λ _ held. held) (λ _ _. refl) _ f.tree.nodes f.used f.bodies f.next _ c.args.self.now c.self.view_is c.self.invariant.0 c.args.key.now c.add.new.self.nodes c.new-entry.result c.in_ok-add.ensures.ok.values c.requires.absent.missing _ _ (ap (past_code g.M.Medium.body_code b) c.add.ensures.before) _
-    (stored-fresh b c.new-entry.result Directory c.args.version c.args.now c.new-entry.ensures.content c.new-entry.ensures.version c.new-entry.ensures.created c.new-entry.ensures.modified c.new-entry.ensures.properties)
+    (stored-fresh b c.new-entry.result Directory c.args.version c.args.now c.new-entry.ensures.content c.new-entry.ensures.version c.new-entry.ensures.created c.new-entry.ensures.modified c.new-entry.ensures.properties c.new-entry.ensures.media_type)

@@ -1,11 +1,9 @@
 use Rattle.std.proofs.Common.{◌∙◌, ap, refl, arith, length}
-use Rattle.dav_store.specs.Store as nodes
-use Rattle.dav_tree.specs.declared.entry.Content.TheVariants.{File}
-use Rattle.dav_tree.specs.Memory.{size_of, fresh}
+use Rattle.dav_tree.specs.Memory.{size_of}
 use Rattle.dav_tree.specs.Entry.{node_by, is_held}
 use Rattle.dav_tree.specs.Before.{past_code}
 use Rattle.dav_tree.specs.Kept.{Kept}
-use Rattle.dav_tree.proofs.Keeping.{stored-fresh}
+use Rattle.dav_tree.proofs.Keeping.{stored-fresh_file}
 use Rattle.dav_tree.proofs.Marking.{numbers-insert}
 use Rattle.dav_tree.proofs.Editing.{added-kept, added-has}
 use Rattle.dav_tree.proofs.Saving.{saved-same}
@@ -14,7 +12,7 @@ use Rattle.dav_tree.proofs.entries.Entries.add_file.Goals as goal
 pub invariant_of-self-2 : goal.invariant_of-self-2
 invariant_of-self-2 g c =
     let f = c.self.inside in let b = g.M.Medium.bytes f.medium in let h = g.M.Medium.holds f.medium in (
-      added-kept b b h h (λ _ held. held) (λ _ _. refl) _ f.tree.nodes f.used f.bodies f.next _ c.args.self.now c.self.view_is c.self.invariant.0 c.args.key.now c.add.new.self.nodes c.new-entry.result c.in_ok-add.ensures.ok.values c.requires.absent.missing f.used
+      added-kept b b h h (λ _ held. held) (λ _ _. refl) _ f.tree.nodes f.used f.bodies f.next _ c.args.self.now c.self.view_is c.self.invariant.0 c.args.key.now c.add.new.self.nodes (record c.new-entry.result { media_type = c.args.media_type }) c.in_ok-add.ensures.ok.values c.requires.absent.missing f.used
           (ap (is_held h) c.new-entry.ensures.content ∙ c.empty-body.ensures.held) (omega (arith, ap (λ x. size_of (node_by b x)) c.new-entry.ensures.content, ap length c.empty-body.ensures.bytes)),
       saved-same (g.M.Medium.safe f.medium) _ _ c.add.ensures.before c.self.invariant.1,
       c.self.invariant.2,
@@ -27,5 +25,5 @@ returns-clause-numbers g c =
 pub returns-clause-ok : goal.returns-clause-ok
 returns-clause-ok g c =
     let f = c.self.inside in let b = g.M.Medium.bytes f.medium in let h = g.M.Medium.holds f.medium in
-    added-has b b h h (λ _ held. held) (λ _ _. refl) _ f.tree.nodes f.used f.bodies f.next _ c.args.self.now c.self.view_is c.self.invariant.0 c.args.key.now c.add.new.self.nodes c.new-entry.result c.in_ok-add.ensures.ok.values c.requires.absent.missing _ _ (ap (past_code g.M.Medium.body_code b) c.add.ensures.before) _
-    (stored-fresh b c.new-entry.result (File c.empty-body.result) c.args.version c.args.now c.new-entry.ensures.content c.new-entry.ensures.version c.new-entry.ensures.created c.new-entry.ensures.modified c.new-entry.ensures.properties ∙ ap (λ bs. fresh (nodes.File bs) c.args.version c.args.now) c.empty-body.ensures.bytes)
+    added-has b b h h (λ _ held. held) (λ _ _. refl) _ f.tree.nodes f.used f.bodies f.next _ c.args.self.now c.self.view_is c.self.invariant.0 c.args.key.now c.add.new.self.nodes (record c.new-entry.result { media_type = c.args.media_type }) c.in_ok-add.ensures.ok.values c.requires.absent.missing _ _ (ap (past_code g.M.Medium.body_code b) c.add.ensures.before) _
+    (stored-fresh_file b c.new-entry.result c.empty-body.result c.args.media_type c.args.version c.args.now c.new-entry.ensures.content c.empty-body.ensures.bytes c.new-entry.ensures.version c.new-entry.ensures.created c.new-entry.ensures.modified c.new-entry.ensures.properties)

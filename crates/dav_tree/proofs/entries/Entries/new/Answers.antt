@@ -23,6 +23,6 @@ returns g c =
     let b = g.M.Medium.bytes c.args.medium in let h = g.M.Medium.holds c.args.medium in
     record {
       resources = first-resources b h c.new-root.result c.in_ok-new.field-0.nodes c.in_ok-new.ensures.tree c.new-2.result c.new-2.ensures.empty
-          ∙ ap (insert empty []) (stored-fresh b c.new-root.result Directory 0 0 c.new-root.ensures.content c.new-root.ensures.version c.new-root.ensures.created c.new-root.ensures.modified c.new-root.ensures.properties);
+          ∙ ap (insert empty []) (stored-fresh b c.new-root.result Directory 0 0 c.new-root.ensures.content c.new-root.ensures.version c.new-root.ensures.created c.new-root.ensures.modified c.new-root.ensures.properties c.new-root.ensures.media_type);
       held = first-held b h c.new-root.result c.in_ok-new.field-0.nodes c.in_ok-new.ensures.tree c.new-2.result c.new-2.ensures.empty (rest_of g.M.Medium.body_code b (g.M.Medium.is_honest c.args.medium) (g.M.Medium.is_faultless c.args.medium) (g.M.Medium.settled c.args.medium) c.in_ok-new.field-0.nodes None) _ (ap (past_code g.M.Medium.body_code b) c.in_ok-new.ensures.before);
     }

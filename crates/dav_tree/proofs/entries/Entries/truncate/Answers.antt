@@ -1,6 +1,6 @@
 use Rattle.std.proofs.Common.{◌∙◌, ap, refl, Some, [], arith, length}
 use Rattle.std.specs.Option.{option_map}
-use Rattle.dav_tree.specs.Memory.{with_bytes}
+use Rattle.dav_tree.specs.Memory.{emptied, with_bytes}
 use Rattle.dav_tree.specs.Entry.{stored_by}
 use Rattle.dav_tree.specs.Before.{past_code}
 use Rattle.dav_tree.proofs.Keeping.{kept-resources, numbered-in, counted-before}
@@ -30,4 +30,4 @@ pub returns : goal.returns
 returns g c = λ key numbered.
     let f = c.self.inside in let b = g.M.Medium.bytes f.medium in let h = g.M.Medium.holds f.medium in
     let r = put-back key c.take-entry.result _ c.exchange.new.value f.tree.nodes c.take-entry.new.tree.nodes c.exchange.new.self.nodes (c.take-entry.ensures.taken key (numbered-in b _ f.tree.nodes f.bodies f.next _ c.args.self.now c.self.view_is key (Some c.args.number) numbered)) (c.exchange.ensures.replaced key (still-numbered key c.take-entry.result f.tree.nodes c.take-entry.new.tree.nodes c.args.number (c.take-entry.ensures.taken key (numbered-in b _ f.tree.nodes f.bodies f.next _ c.args.self.now c.self.view_is key (Some c.args.number) numbered)) (numbered-in b _ f.tree.nodes f.bodies f.next _ c.args.self.now c.self.view_is key (Some c.args.number) numbered))) in
-    edited-change b b h h (λ _ held. held) (λ _ _. refl) _ f.tree.nodes f.used f.bodies f.next _ c.args.self.now c.self.view_is c.self.invariant.0 key c.exchange.new.self.nodes c.take-entry.result _ r _ _ (ap (past_code g.M.Medium.body_code b) (c.exchange.ensures.before ∙ c.take-entry.ensures.before)) (with_bytes [] c.args.version c.args.now) (ap (λ bs. with_bytes bs c.args.version c.args.now (stored_by b c.take-entry.result)) c.empty.ensures.bytes)
+    edited-change b b h h (λ _ held. held) (λ _ _. refl) _ f.tree.nodes f.used f.bodies f.next _ c.args.self.now c.self.view_is c.self.invariant.0 key c.exchange.new.self.nodes c.take-entry.result _ r _ _ (ap (past_code g.M.Medium.body_code b) (c.exchange.ensures.before ∙ c.take-entry.ensures.before)) (emptied c.args.media_type c.args.version c.args.now) (ap (λ bs. record (with_bytes bs c.args.version c.args.now (stored_by b c.take-entry.result)) { media_type = c.args.media_type }) c.empty.ensures.bytes)

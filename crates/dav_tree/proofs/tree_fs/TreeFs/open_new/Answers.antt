@@ -1,9 +1,8 @@
-use Rattle.std.proofs.Common.{◌∙◌, ◌+◌, arith, ap, sym, refl, [], Some, None, if◌then◌else◌}
+use Rattle.std.proofs.Common.{◌∙◌, ◌+◌, arith, ap, sym, refl, Some, None, if◌then◌else◌}
 use Rattle.std.specs.FinMap.{insert}
 use Rattle.dav_resource.specs.declared.error.FsError.TheVariants.{NotFound}
-use Rattle.dav_store.specs.Store.{File}
 use Rattle.dav_key.specs.Key.{parent}
-use Rattle.dav_tree.specs.Memory.{fresh, marked}
+use Rattle.dav_tree.specs.Memory.{fresh_file, marked}
 use Rattle.dav_tree.specs.TreeFs.{memory_of}
 use Rattle.dav_tree.specs.MemoryCalls.{member_error}
 use Rattle.dav_tree.proofs.Named.{named-empty}
@@ -37,7 +36,7 @@ invariant_of-self-2 g c =
     let e = c.args.self.now.entries in
     let key = c.args.path.now.key in
     let above = directory-above e e refl key _ c.key.ensures.value _ c.in-Some.ensures in
-    let made = fresh (File []) c.in_ok-version.version c.args.self.now.moment in
+    let made = fresh_file c.in_ok-media_type.media_type c.in_ok-version.version c.args.self.now.moment in
     record {
       sound = sound-changed e e c.add_file.new.self refl c.args.self.now.sound (λ r. insert r key made)
           (λ new is. sound-kept e.resources new key made c.args.self.now.sound is c.key.ensures.key above (missing_no_directory e.resources key c.requires.missing) named-empty)
@@ -64,6 +63,6 @@ returns-clause-opened g c =
     let number = c.in_ok-add_file.ensures.numbers (parent key) _ (number-above e e refl key _ c.key.ensures.value _ c.in-Some.ensures) in
     over-ok _ _ _ _ _ _ (open_missing c.args.options.now key m c.requires.missing above ∙ ap (λ t. member_error (if t then None else Some NotFound) m) (sym c.may_make.ensures ∙ c.if-not-may_make.false) ∙ c.in_ok-version.ensures.1)
     (c.mark.ensures.marked (parent key) number
-    ∙ ap (marked (parent key)) (memory-changed c.in_ok-version.version m.moment m.limit m.tag_part m.marks e e c.add_file.new.self (λ r. insert r key (fresh (File []) c.in_ok-version.version m.moment)) refl (rw c.key-2.ensures.value at c.in_ok-add_file.ensures.ok)
-    ∙ ap (λ v. record m { resources = insert m.resources key (fresh (File []) v m.moment); version = v }) c.in_ok-version.ensures.0)
+    ∙ ap (marked (parent key)) (memory-changed c.in_ok-version.version m.moment m.limit m.tag_part m.marks e e c.add_file.new.self (λ r. insert r key (fresh_file c.in_ok-media_type.media_type c.in_ok-version.version m.moment)) refl (rw c.key-2.ensures.value at c.in_ok-add_file.ensures.ok)
+    ∙ (λ i. record m { resources = insert m.resources key (fresh_file (c.in_ok-media_type.ensures i) (c.in_ok-version.ensures.0 i) m.moment); version = c.in_ok-version.ensures.0 i }))
     ∙ sym (opened-at c.args.options.now key m None c.requires.missing))
