@@ -110,15 +110,27 @@ type bufferedWriter struct {
 	http.ResponseWriter
 }
 
+// inertTypes are what the media types begin with in which no browser runs scripts.
+var inertTypes = []string{
+	"application/json", "application/octet-stream", "application/pdf", "application/zip", "audio/", "font/", "image/",
+	"text/css", "text/csv", "text/javascript", "text/markdown", "text/plain", "video/",
+}
+
 // runsScripts reports whether a browser may run scripts in a file of this type. They would act with the rights of the
-// user who opens the file.
+// user who opens the file. A client may have chosen the type, so that one that is not known counts as such.
 func runsScripts(mediaType string) bool {
+	mediaType = strings.ToLower(mediaType)
 	for _, active := range []string{"html", "svg", "xml"} {
 		if strings.Contains(mediaType, active) {
 			return true
 		}
 	}
-	return false
+	for _, inert := range inertTypes {
+		if strings.HasPrefix(mediaType, inert) {
+			return false
+		}
+	}
+	return true
 }
 
 // serveCollection answers with a page that lists the members. Its path ends with a slash, so that the links on the

@@ -4,19 +4,21 @@
 --
 -- The server must have ended, or the database must be that of a backup.
 
--- Each resource with its whole path. That of a directory ends with a slash.
+-- Each resource with its whole path. That of a directory ends with a slash. Behind a slash in its name is its media type.
 CREATE TEMP VIEW paths AS
 WITH RECURSIVE below(number, path) AS (
     SELECT number, '/' FROM resource WHERE number = 0
     UNION ALL
-    SELECT resource.number, below.path || resource.name || CASE resource.directory WHEN 1 THEN '/' ELSE '' END
+    SELECT resource.number, below.path || substr(resource.name, 1, instr(resource.name || '/', '/') - 1)
+        || CASE resource.directory WHEN 1 THEN '/' ELSE '' END
     FROM below JOIN resource ON resource.parent = below.number AND resource.number <> 0
 )
 SELECT number, path FROM below;
 
--- The files: the path, the size in bytes, and the times in UTC.
+-- The files: the path, the size in bytes, the times in UTC, and the media type if one is kept, which is behind the name.
 CREATE TEMP VIEW files AS
-SELECT path, size, datetime(created, 'unixepoch') AS created, datetime(modified, 'unixepoch') AS modified
+SELECT path, size, datetime(created, 'unixepoch') AS created, datetime(modified, 'unixepoch') AS modified,
+    CASE instr(name, '/') WHEN 0 THEN NULL ELSE substr(name, instr(name, '/') + 1) END AS media_type
 FROM paths JOIN resource USING (number)
 WHERE directory = 0
 ORDER BY path;
