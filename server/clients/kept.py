@@ -112,6 +112,26 @@ def versions(found: tuple) -> list[str]:
     return [re.sub(r'^"[0-9a-f]{32}-', '"', it) for it in found]
 
 
+@GROUP.check("the media type of a PUT is there after davd was killed, and after the server was started again")
+def types(starter: Starter):
+    server = start(starter)
+    server.ask("PUT", "/a.txt", b"1", {"Content-Type": "text/markdown; charset=utf-8"}, 201)
+    server.ask("COPY", "/a.txt", None, {"Destination": server.url("/b.html")}, 201)
+    server.ask("PUT", "/c.txt", b"1", {"Content-Type": "application/octet-stream"}, 201)
+    want = {"/a.txt": "text/markdown; charset=utf-8", "/b.html": "text/markdown; charset=utf-8", "/c.txt": "text/plain"}
+
+    def found() -> dict:
+        return {path: server.ask("GET", path, status=200).field("Content-Type") for path in want}
+
+    expect("the media types", found(), want)
+    kill(server)
+    expect("the media types after a kill", found(), want)
+    server.stop()
+    server = start(starter)
+    expect("the media types after a start", found(), want)
+    server.stop()
+
+
 @GROUP.check("no entity tag is given again over an older copy of the folder")
 def tags(starter: Starter):
     server = start(starter)
@@ -335,7 +355,7 @@ def nothing(starter: Starter):
 def rows(starter: Starter):
     server = start(starter)
     server.ask("MKCOL", "/d", status=201)
-    server.ask("PUT", "/d/a%20b", b"12345", status=201)
+    server.ask("PUT", "/d/a%20b", b"12345", {"Content-Type": "text/x"}, 201)
     server.ask("PROPPATCH", "/d/", PATCH, status=207)
     server.ask("LOCK", "/d/a%20b", LOCK, fields=[("Timeout", "Second-3600")], status=200)
     server.stop()
@@ -343,7 +363,7 @@ def rows(starter: Starter):
     database.executescript((pathlib.Path(__file__).parents[1] / "views.sql").read_text())
     for query, want in (
         ("SELECT path FROM paths ORDER BY number", [("/",), ("/d/",), ("/d/a b",)]),
-        ("SELECT path, size FROM files WHERE created <= modified", [("/d/a b", 5)]),
+        ("SELECT path, size, media_type FROM files WHERE created <= modified", [("/d/a b", 5, "text/x")]),
         ("SELECT path, members FROM directories", [("/", 1), ("/d/", 1)]),
         ("SELECT path, namespace, name FROM properties", [("/d/", "urn:c", "c")]),
         ("SELECT path FROM locks", [("/d/a%20b",)]),
