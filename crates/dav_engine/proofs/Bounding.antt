@@ -163,8 +163,8 @@ pub unrecorded_mkcol : Unrecorded mkcol_method
 unrecorded_mkcol = unrecorded_at_path mkcol_method mkcol_keeps
 
 write_keeps : (partial : Bool) → Keeps ApartFromPath (write_method partial)
-write_keeps partial settings request found old new head records answer lawful passed (inl work) key apart = write_stands request key records old.contents new.contents apart settings.facts.bodies work.0.target work.0.leaves
-write_keeps partial settings request found old new head records answer lawful passed (inr cut) key apart = write_stands request key records old.contents new.contents apart settings.facts.bodies cut.1.0.target cut.1.0.leaves
+write_keeps partial settings request found old new head records answer lawful passed (inl work) key apart = write_stands request key records old.contents new.contents apart settings.profile settings.facts.bodies work.0.target work.0.leaves
+write_keeps partial settings request found old new head records answer lawful passed (inr cut) key apart = write_stands request key records old.contents new.contents apart settings.profile settings.facts.bodies cut.1.0.target cut.1.0.leaves
 
 pub elsewhere_put : Elsewhere (Some methods.Put) (write_method false)
 elsewhere_put = elsewhere_at_path (write_method false) (write_keeps false) (Some methods.Put) (λ settings request key. refl)

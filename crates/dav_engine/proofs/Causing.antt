@@ -268,18 +268,18 @@ tells_write true request op cause = refl
 tells_write false request op cause = refl
 
 -- only `create` and `create_new` count for the error of an open
-same_open_error : (request : DavRequest) (target : Target) (cause : FsError) → put_open_error (put_options request target) cause ≡ open_error StatusClose (making_options request) cause
-same_open_error request target fs.NotImplemented = refl
-same_open_error request target fs.GeneralFailure = refl
-same_open_error request target fs.Exists = refl
-same_open_error request target fs.NotFound = refl
-same_open_error request target fs.Forbidden = refl
-same_open_error request target fs.InsufficientStorage = refl
-same_open_error request target fs.LoopDetected = refl
-same_open_error request target fs.PathTooLong = refl
-same_open_error request target fs.TooLarge = refl
-same_open_error request target fs.IsRemote = refl
-same_open_error request target fs.Memory = refl
+same_open_error : (profile : Profile) (request : DavRequest) (target : Target) (cause : FsError) → put_open_error (put_options profile request target) cause ≡ open_error StatusClose (making_options request) cause
+same_open_error profile request target fs.NotImplemented = refl
+same_open_error profile request target fs.GeneralFailure = refl
+same_open_error profile request target fs.Exists = refl
+same_open_error profile request target fs.NotFound = refl
+same_open_error profile request target fs.Forbidden = refl
+same_open_error profile request target fs.InsufficientStorage = refl
+same_open_error profile request target fs.LoopDetected = refl
+same_open_error profile request target fs.PathTooLong = refl
+same_open_error profile request target fs.TooLarge = refl
+same_open_error profile request target fs.IsRemote = refl
+same_open_error profile request target fs.Memory = refl
 
 module _ (partial : Bool) (request : DavRequest) (e : DavError) where
   abbrev WriteFails : List Logged → Type 0
@@ -300,9 +300,9 @@ module _ (partial : Bool) (request : DavRequest) (e : DavError) where
   seek_ends true next later records leads = needed_ends (written_by partial) request e (on_file ops.Seek request.path.key) put_seek_error next refl (tells_write partial request ops.Seek) later records leads
   seek_ends false next later records leads = later records leads
 
-  module _ (held : Bodies) (target : Target) (old : Contents) (meta : Option Meta) where
+  module _ (profile : Profile) (held : Bodies) (target : Target) (old : Contents) (meta : Option Meta) where
     abbrev opening : Call
-    opening = open_call old request.path.key (put_options request target)
+    opening = open_call old request.path.key (put_options profile request target)
 
     abbrev last_steps : Dialogue (Option Meta)
     last_steps = needs (on_file ops.Flush request.path.key) from_fs (look_up_by (on_file ops.FileMetadata request.path.key) meta)
@@ -313,11 +313,11 @@ module _ (partial : Bool) (request : DavRequest) (e : DavError) where
     opened_ends : (records : List Logged) → LeadsTo (put_seek target request.path.key write_steps) records (Refuses (Err e)) → WriteFails records
     opened_ends = seek_ends target.part write_steps (write_ends (new_bytes held request.body) last_steps (flush_ends meta))
 
-    tells_open : (cause : FsError) → call_error (written_by partial) request ops.OpenFile cause ≡ Some (put_open_error (put_options request target) cause)
-    tells_open cause = tells_write partial request ops.OpenFile cause ∙ ap Some (sym (same_open_error request target cause))
+    tells_open : (cause : FsError) → call_error (written_by partial) request ops.OpenFile cause ≡ Some (put_open_error (put_options profile request target) cause)
+    tells_open cause = tells_write partial request ops.OpenFile cause ∙ ap Some (sym (same_open_error profile request target cause))
 
-    put_ends : (records : List Logged) → LeadsTo (put_steps held request target old meta) records (Refuses (Err e)) → WriteFails records
-    put_ends = needed_ends (written_by partial) request e opening (put_open_error (put_options request target)) (put_seek target request.path.key write_steps) refl tells_open opened_ends
+    put_ends : (records : List Logged) → LeadsTo (put_steps profile held request target old meta) records (Refuses (Err e)) → WriteFails records
+    put_ends = needed_ends (written_by partial) request e opening (put_open_error (put_options profile request target)) (put_seek target request.path.key write_steps) refl tells_open opened_ends
 
 pub causes_put : (partial : Bool) → Causes (Some (if partial then Patch else Put)) (write_method partial)
 causes_put partial settings request old new records answer lawful (Refused h) e is = caused_same (looks_led _ _ records (put_looks request old settings.facts.bodies partial) h.head) h.same
@@ -325,7 +325,7 @@ causes_put partial settings request old new records answer lawful (CutShort h) e
 causes_put partial settings request old new records answer lawful (CutInWork h) e is = caused_memory h.answered is
 causes_put partial settings request old new records answer lawful (Done h) e is =
     caused_by_call h.head h.rest h.cut (looks_led _ _ h.head (put_looks request old settings.facts.bodies partial) h.passed)
-    (put_ends partial request e settings.facts.bodies h.work.0.target old.contents (new.contents.metas request.path.key) h.rest (rw is at h.work.0.answered)) h.work.0.leaves.untouched (inl h.work.1)
+    (put_ends partial request e settings.profile settings.facts.bodies h.work.0.target old.contents (new.contents.metas request.path.key) h.rest (rw is at h.work.0.answered)) h.work.0.leaves.untouched (inl h.work.1)
 
 -- ---- DELETE, COPY and MOVE
 

@@ -5,6 +5,7 @@ use Rattle.std.specs.Result.{result_ok}
 use Rattle.std.specs.FinMap.{get, insert}
 use Rattle.std.proofs.lemmas.Slice.Eq.{bytes_eq-Decides}
 use Rattle.dav_key.specs.Key.{Key, key_cmp, tied_decides}
+use Rattle.dav_resource.specs.declared.profile.Profile.{Profile}
 use Rattle.dav_resource.specs.declared.error.DavError.TheVariants.{Memory}
 use Rattle.dav_resource.specs.declared.error.FsError.{FsError}
 use Rattle.dav_resource.specs.declared.meta.Meta.{Meta}
@@ -86,8 +87,8 @@ mkcol_elsewhere : (request : DavRequest) (records : List Logged) (old new : Cont
 mkcol_elsewhere request records old new key leaves apart changed =
     unchanged key old new (leaves.untouched (λ granted. put_node_elsewhere request.path.key key _ old new (leaves.made granted).tree (leaves.made granted).properties apart changed)) changed
 
-put_work_elsewhere : (held : Bodies) (request : DavRequest) (target : Target) (records : List Logged) (old new : Contents) (key : Key) → PutLeaves held request target records old new → (key ≢ request.path.key) → IsChanged key old new → ⊥
-put_work_elsewhere held request target records old new key leaves apart changed =
+put_work_elsewhere : (profile : Profile) (held : Bodies) (request : DavRequest) (target : Target) (records : List Logged) (old new : Contents) (key : Key) → PutLeaves profile held request target records old new → (key ≢ request.path.key) → IsChanged key old new → ⊥
+put_work_elsewhere profile held request target records old new key leaves apart changed =
     let at : (bytes : List ℕ) → IsFileAt request.path.key bytes old new → ⊥ = λ bytes file. put_node_elsewhere request.path.key key _ old new file.tree file.properties apart changed in
     unchanged key old new (leaves.untouched (λ opened. at _ (leaves.opened opened (λ written. at _ (leaves.written written))))) changed
 
@@ -181,8 +182,8 @@ guards_mkcol settings request found old new head records answer passed (inl work
 guards_mkcol settings request found old new head records answer passed (inr cut) = guarded_at (Some MkCol) request old new (shallow_passed request old head found passed) (λ key apart changed. unchanged key old.contents new.contents cut.1.0.same changed)
 
 pub guards_put : (name : Option DavMethod) (partial : Bool) → Guards name (write_method partial)
-guards_put name partial settings request found old new head records answer passed (inl work) = guarded_at name request old new (put_passed settings.facts.bodies partial request old head found passed) (λ key. put_work_elsewhere settings.facts.bodies request work.0.target records old.contents new.contents key work.0.leaves)
-guards_put name partial settings request found old new head records answer passed (inr cut) = guarded_at name request old new (put_passed settings.facts.bodies partial request old head found passed) (λ key. put_work_elsewhere settings.facts.bodies request cut.1.0.target records old.contents new.contents key cut.1.0.leaves)
+guards_put name partial settings request found old new head records answer passed (inl work) = guarded_at name request old new (put_passed settings.facts.bodies partial request old head found passed) (λ key. put_work_elsewhere settings.profile settings.facts.bodies request work.0.target records old.contents new.contents key work.0.leaves)
+guards_put name partial settings request found old new head records answer passed (inr cut) = guarded_at name request old new (put_passed settings.facts.bodies partial request old head found passed) (λ key. put_work_elsewhere settings.profile settings.facts.bodies request cut.1.0.target records old.contents new.contents key cut.1.0.leaves)
 
 pub guards_delete : Guards (Some Delete) delete_method
 guards_delete settings request found old new head records answer passed (inl work) =

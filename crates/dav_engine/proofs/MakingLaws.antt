@@ -6,6 +6,7 @@ use Rattle.std.specs.Option.{ForSome}
 use Rattle.std.specs.Result.{result_ok}
 use Rattle.dav_key.specs.Key.{Key, is_same_key, same_key_decides}
 use Rattle.dav_resource.specs.Errors.{from_fs}
+use Rattle.dav_resource.specs.declared.profile.Profile.{Profile}
 use Rattle.dav_resource.specs.declared.error.DavError.{DavError}
 use Rattle.dav_resource.specs.declared.error.DavError.TheVariants.{StatusClose}
 use Rattle.dav_resource.specs.declared.error.FsError.{FsError}
@@ -189,7 +190,7 @@ write_passed (b ∷ bytes) key next records a h =
     let written = needs_passed (on_file WriteBytes key) from_fs next records a h in
     inr (subst (WasGranted WriteBytes key) (sym written.1) (inl refl))
 
-module _ (held : Bodies) (request : DavRequest) (target : Target) where
+module _ (profile : Profile) (held : Bodies) (request : DavRequest) (target : Target) where
   abbrev at_path : Key
   at_path = request.path.key
 
@@ -197,17 +198,17 @@ module _ (held : Bodies) (request : DavRequest) (target : Target) where
   body = new_bytes held request.body
 
   -- where the calls were all passed, the file was opened, and written if there is something to write
-  put_calls : (old : Contents) (meta seen : Option Meta) (records : List Logged) → LeadsTo (put_steps held request target old meta) records (Passed seen)
+  put_calls : (old : Contents) (meta seen : Option Meta) (records : List Logged) → LeadsTo (put_steps profile held request target old meta) records (Passed seen)
       → WasGranted OpenFile at_path records × ((body ≡ []) ⊎ WasGranted WriteBytes at_path records)
   put_calls old meta seen records h =
-      let opened = needs_passed (open_call old at_path (put_options request target)) (put_open_error (put_options request target)) _ records seen h in
+      let opened = needs_passed (open_call old at_path (put_options profile request target)) (put_open_error (put_options profile request target)) _ records seen h in
       let sought = seek_passed target at_path _ opened.0 seen opened.3 in
-      let all : records ≡ (record_of (open_call old at_path (put_options request target)) outcomes.Granted ∷ sought.0) ++ sought.1 = opened.1 ∙ ap (λ l. record_of (open_call old at_path (put_options request target)) outcomes.Granted ∷ l) sought.2 in
+      let all : records ≡ (record_of (open_call old at_path (put_options profile request target)) outcomes.Granted ∷ sought.0) ++ sought.1 = opened.1 ∙ ap (λ l. record_of (open_call old at_path (put_options profile request target)) outcomes.Granted ∷ l) sought.2 in
       (subst (WasGranted OpenFile at_path) (sym opened.1) (inl refl), further sought.0 sought.1 all (write_passed body at_path _ sought.1 seen sought.3))
     where
-      further : (head rest : List Logged) → records ≡ (record_of (open_call old at_path (put_options request target)) outcomes.Granted ∷ head) ++ rest → (body ≡ []) ⊎ WasGranted WriteBytes at_path rest → (body ≡ []) ⊎ WasGranted WriteBytes at_path records
+      further : (head rest : List Logged) → records ≡ (record_of (open_call old at_path (put_options profile request target)) outcomes.Granted ∷ head) ++ rest → (body ≡ []) ⊎ WasGranted WriteBytes at_path rest → (body ≡ []) ⊎ WasGranted WriteBytes at_path records
       further head rest all (inl none) = inl none
-      further head rest all (inr written) = inr (subst (WasGranted WriteBytes at_path) (sym all) (WasGranted-rest WriteBytes at_path (record_of (open_call old at_path (put_options request target)) outcomes.Granted ∷ head) rest written))
+      further head rest all (inr written) = inr (subst (WasGranted WriteBytes at_path) (sym all) (WasGranted-rest WriteBytes at_path (record_of (open_call old at_path (put_options profile request target)) outcomes.Granted ∷ head) rest written))
 
 -- ---- PUT and PATCH: what the file holds
 
@@ -242,7 +243,7 @@ whole_target partial request found target replaces aimed =
 file_at : (key : Key) (bytes : List ℕ) (old new : Contents) → IsFileAt key bytes old new → get new.tree key ≡ Some (File bytes)
 file_at key bytes old new is = ap (λ t. get t key) is.tree ∙ put_here old.tree key (File bytes)
 
-module _ (held : Bodies) (request : DavRequest) (old new : State) where
+module _ (profile : Profile) (held : Bodies) (request : DavRequest) (old new : State) where
   abbrev before : List ℕ
   before = bytes_at (get old.contents.tree request.path.key)
 
@@ -250,7 +251,7 @@ module _ (held : Bodies) (request : DavRequest) (old new : State) where
   bytes = new_bytes held request.body
 
   -- the final content, once all calls were passed
-  put_final : (target : Target) (records : List Logged) → PutLeaves held request target records old.contents new.contents → WasGranted OpenFile request.path.key records → (bytes ≡ []) ⊎ WasGranted WriteBytes request.path.key records
+  put_final : (target : Target) (records : List Logged) → PutLeaves profile held request target records old.contents new.contents → WasGranted OpenFile request.path.key records → (bytes ≡ []) ⊎ WasGranted WriteBytes request.path.key records
       → IsFileAt request.path.key (final_bytes target bytes before) old.contents new.contents
   put_final target records leaves opened (inr written) = leaves.written written
   put_final target records leaves opened (inl none) = by_call (granted_or_not WriteBytes is_write request.path.key records)
@@ -260,7 +261,7 @@ module _ (held : Bodies) (request : DavRequest) (old new : State) where
       by_call (inr unwritten) = subst (λ b. IsFileAt request.path.key b old.contents new.contents) (opened_final target before bytes none) (leaves.opened opened unwritten)
 
   -- no part of the body, wherever the calls ended
-  put_never_part : (target : Target) (records : List Logged) → target.part ≡ false → PutLeaves held request target records old.contents new.contents → IsWholeOrEmpty held request old new
+  put_never_part : (target : Target) (records : List Logged) → target.part ≡ false → PutLeaves profile held request target records old.contents new.contents → IsWholeOrEmpty held request old new
   put_never_part target records no_part leaves = by_calls (granted_or_not OpenFile is_open request.path.key records) (granted_or_not WriteBytes is_write request.path.key records)
     where
       at : (there wanted : List ℕ) → there ≡ wanted → IsFileAt request.path.key there old.contents new.contents → HasFileAtPath request new wanted
@@ -287,26 +288,26 @@ module _ (partial : Bool) (settings : Settings) (request : DavRequest) (old new 
   put_writes (CutInWork h) = untransferred (ap is_transferred h.answered)
   put_writes (Done h) = by_answer answer h.work.0.answered
     where
-      work : PutWork bodies partial request h.found old.contents h.rest answer new.contents
+      work : PutWork settings.profile bodies partial request h.found old.contents h.rest answer new.contents
       work = h.work.0
 
-      by_answer : (recorded : Answer) → IsAnswered (put_steps bodies request work.target old.contents (new.contents.metas request.path.key)) (λ meta reply. reply ≡ put_reply h.found meta) h.rest recorded → is_transferred recorded ≡ true → WritesFile bodies partial request old new
+      by_answer : (recorded : Answer) → IsAnswered (put_steps settings.profile bodies request work.target old.contents (new.contents.metas request.path.key)) (λ meta reply. reply ≡ put_reply h.found meta) h.rest recorded → is_transferred recorded ≡ true → WritesFile bodies partial request old new
       by_answer (Err e) answered recorded = absurd cc
       by_answer (Ok reply) answered recorded =
-          let calls = put_calls bodies request work.target old.contents (new.contents.metas request.path.key) answered.0 h.rest answered.1 in
+          let calls = put_calls settings.profile bodies request work.target old.contents (new.contents.metas request.path.key) answered.0 h.rest answered.1 in
           record {
             found = h.found;
             known = put_known bodies partial request old h.head h.found h.passed;
             target = work.target;
             aimed = work.aimed;
-            file = file_at request.path.key _ old.contents new.contents (put_final bodies request old new work.target h.rest work.leaves calls.0 calls.1);
+            file = file_at request.path.key _ old.contents new.contents (put_final settings.profile bodies request old new work.target h.rest work.leaves calls.0 calls.1);
           }
 
   put_parts : StepBy (write_method partial) settings request old records answer new → ReplacesWhole partial request → IsWholeOrEmpty bodies request old new
   put_parts (Refused h) replaces = inl (ap (λ (s : State). get s.contents.tree request.path.key) h.same)
   put_parts (CutShort h) replaces = inl (ap (λ (s : State). get s.contents.tree request.path.key) h.same)
-  put_parts (Done h) replaces = put_never_part bodies request old new h.work.0.target h.rest (whole_target partial request h.found h.work.0.target replaces h.work.0.aimed) h.work.0.leaves
-  put_parts (CutInWork h) replaces = put_never_part bodies request old new h.work.0.target h.rest (whole_target partial request h.found h.work.0.target replaces h.work.0.aimed) h.work.0.leaves
+  put_parts (Done h) replaces = put_never_part settings.profile bodies request old new h.work.0.target h.rest (whole_target partial request h.found h.work.0.target replaces h.work.0.aimed) h.work.0.leaves
+  put_parts (CutInWork h) replaces = put_never_part settings.profile bodies request old new h.work.0.target h.rest (whole_target partial request h.found h.work.0.target replaces h.work.0.aimed) h.work.0.leaves
 
   -- the whole body
   put_whole : WritesFile bodies partial request old new → ReplacesWhole partial request → HasFileAtPath request new (new_bytes bodies request.body)

@@ -3,6 +3,7 @@ use Rattle.std.proofs.Common.{◌≡◌, ◌≢◌, ◌∙◌, ℕ, IfOk, IfErr,
 use Rattle.std.specs.FinMap.{get, insert}
 use Rattle.dav_key.specs.Key.{Key}
 use Rattle.dav_resource.specs.Errors.{from_fs}
+use Rattle.dav_resource.specs.declared.profile.Profile.{Profile}
 use Rattle.dav_resource.specs.declared.meta.Meta.{Meta}
 use Rattle.dav_resource.specs.declared.meta.DavFile.{DavFile}
 use Rattle.dav_resource.specs.declared.record.Op.{Op}
@@ -67,12 +68,12 @@ written_is false false start old body = written_at-start body
 pub same_bytes : (body : ReqBody) (old now : Facts) → now ≡ old → new_bytes old.bodies body ≡ new_bytes now.bodies body
 same_bytes body old now fixed = ap (λ (f : Facts). new_bytes f.bodies body) (sym fixed)
 
-module _ (held : Bodies) (request : DavRequest) (target : Target) where
+module _ (profile : Profile) (held : Bodies) (request : DavRequest) (target : Target) where
   abbrev place : Key
   place = request.path.key
 
   abbrev options : OpenOptions
-  options = put_options request target
+  options = put_options profile request target
 
   -- what is left to be asked after the write, and before it
   abbrev last_steps : Option Meta → Dialogue (Option Meta)
@@ -93,8 +94,8 @@ module _ (held : Bodies) (request : DavRequest) (target : Target) where
     pub records : List Logged
     pub recorded : now.log ≡ old.log ++ records
     pub fixed : now.facts ≡ old.facts
-    pub calls : (meta : Option Meta) → LeadsTo (put_steps held request target old.contents meta) records (left meta)
-    pub leaves : PutLeaves held request target records old.contents now.contents
+    pub calls : (meta : Option Meta) → LeadsTo (put_steps profile held request target old.contents meta) records (left meta)
+    pub leaves : PutLeaves profile held request target records old.contents now.contents
     pub bytes : List ℕ
     pub there : get now.contents.tree place ≡ Some (File bytes)
 
@@ -110,16 +111,17 @@ module _ (held : Bodies) (request : DavRequest) (target : Target) where
     pub records : List Logged
     pub recorded : now.log ≡ old.log ++ records
     pub fixed : now.facts ≡ old.facts
-    pub calls : LeadsTo (put_steps held request target old.contents (now.contents.metas place)) records (Passed meta)
-    pub leaves : PutLeaves held request target records old.contents now.contents
+    pub calls : LeadsTo (put_steps profile held request target old.contents (now.contents.metas place)) records (Passed meta)
+    pub leaves : PutLeaves profile held request target records old.contents now.contents
 
   -- a record of another op, or of a call that wasn't granted, leaves what was left
-  leaves_more : (records : List Logged) (r : Logged) (old mid new : Contents) → PutLeaves held request target records old mid → new ≡ mid
-      → (WasGranted OpenFile place (r ∷ []) → ⊥) → (WasGranted WriteBytes place (r ∷ []) → ⊥) → PutLeaves held request target (records ++ r ∷ []) old new
+  leaves_more : (records : List Logged) (r : Logged) (old mid new : Contents) → PutLeaves profile held request target records old mid → new ≡ mid
+      → (WasGranted OpenFile place (r ∷ []) → ⊥) → (WasGranted WriteBytes place (r ∷ []) → ⊥) → PutLeaves profile held request target (records ++ r ∷ []) old new
   leaves_more records r old mid new leaves same no_open no_write = rw same (record {
     untouched = λ none. leaves.untouched (λ g. none (WasGranted-first OpenFile place records (r ∷ []) g));
     opened = λ opened unwritten. leaves.opened (earlier OpenFile no_open opened) (λ g. unwritten (WasGranted-first WriteBytes place records (r ∷ []) g));
     written = λ wrote. leaves.written (earlier WriteBytes no_write wrote);
+    typed = λ opened. leaves.typed (earlier OpenFile no_open opened);
   })
     where
       pick : (op : Op) → (WasGranted op place (r ∷ []) → ⊥) → WasGranted op place records ⊎ WasGranted op place (r ∷ []) → WasGranted op place records
@@ -147,6 +149,7 @@ module _ (held : Bodies) (request : DavRequest) (target : Target) where
             untouched = λ none. absurd (none (inl refl));
             opened = λ _ _. is;
             written = λ g. absurd (not_this_op WriteBytes place _ g (λ x. cc));
+            typed = λ _. h.effect.types;
           };
           bytes = kept old.contents;
           there = rw is.tree (put_here old.contents.tree place (File (kept old.contents)));
@@ -214,8 +217,8 @@ module _ (held : Bodies) (request : DavRequest) (target : Target) where
       ∙ ap (λ t. insert t place (File (written_at (kept old.contents) (if target.append then length (kept old.contents) else placed.pos) (b ∷ bytes)))) h.file.tree
       ∙ insert-inserted old.contents.tree place (File (kept old.contents)) (File (written_at (kept old.contents) (if target.append then length (kept old.contents) else placed.pos) (b ∷ bytes)))
       ∙ ap (λ bytes. insert old.contents.tree place (File bytes)) (written_is target.part target.append target.start (contained old.contents) (b ∷ bytes))) in
-      let asked : (meta : Option Meta) → LeadsTo (put_steps held request target old.contents meta) h.reached.records (needs (on_file WriteBytes place) from_fs (last_steps meta)) =
-      (λ meta. subst (λ body. LeadsTo (put_steps held request target old.contents meta) h.reached.records (put_write body place (last_steps meta))) is (h.reached.calls meta)) in
+      let asked : (meta : Option Meta) → LeadsTo (put_steps profile held request target old.contents meta) h.reached.records (needs (on_file WriteBytes place) from_fs (last_steps meta)) =
+      (λ meta. subst (λ body. LeadsTo (put_steps profile held request target old.contents meta) h.reached.records (put_write body place (last_steps meta))) is (h.reached.calls meta)) in
       record {
         records = h.reached.records ++ r ∷ [];
         recorded = rw (g.recorded, h.reached.recorded, append_assoc);
@@ -225,6 +228,7 @@ module _ (held : Bodies) (request : DavRequest) (target : Target) where
           untouched = λ none. absurd (none (WasGranted-first OpenFile place h.reached.records (r ∷ []) h.opened));
           opened = λ _ unwritten. absurd (unwritten (WasGranted-last WriteBytes place h.reached.records));
           written = λ _. record { tree = rw is tree; properties = rw (g.effect.properties, h.file.properties); limit = rw (g.effect.limit, h.file.limit) };
+          typed = λ _. g.effect.types ∙ h.reached.leaves.typed h.opened;
         };
         bytes = final_bytes target (b ∷ bytes) (contained old.contents);
         there = rw tree (put_here old.contents.tree place (File (final_bytes target (b ∷ bytes) (contained old.contents))));
@@ -251,8 +255,8 @@ module _ (held : Bodies) (request : DavRequest) (target : Target) where
   as_steps mid bytes there = ap (λ call. look_up_by call (mid.metas place)) (at_file FileMetadata mid place bytes there)
 
   -- its one record is of no change
-  leaves_looked : (records more : List Logged) (old mid new : Contents) (left : Dialogue (Option Meta)) → PutLeaves held request target records old mid → new ≡ mid
-      → LeadsTo (look_up_by (on_file FileMetadata place) (mid.metas place)) more left → PutLeaves held request target (records ++ more) old new
+  leaves_looked : (records more : List Logged) (old mid new : Contents) (left : Dialogue (Option Meta)) → PutLeaves profile held request target records old mid → new ≡ mid
+      → LeadsTo (look_up_by (on_file FileMetadata place) (mid.metas place)) more left → PutLeaves profile held request target (records ++ more) old new
   leaves_looked records [] old mid new left leaves same h = rw (append-nil records, same) leaves
   leaves_looked records (r ∷ []) old mid new left leaves same h =
       let other : (op : Op) → FileMetadata ≢ op → r.op ≢ op = λ op apart e. apart (sym (ap (λ (l : Logged). l.op) h.0) ∙ e) in
@@ -282,12 +286,12 @@ goes call meta (r ∷ s ∷ records) left h = absurd h.2
 
 -- ---- want of memory, refusals and the reply
 
-module _ (held : Bodies) (partial : Bool) (request : DavRequest) (found : Option Meta) (target : Target) (aimed : target_of partial request.headers (as_looked found) ≡ Ok target) where
+module _ (profile : Profile) (held : Bodies) (partial : Bool) (request : DavRequest) (found : Option Meta) (target : Target) (aimed : target_of partial request.headers (as_looked found) ≡ Ok target) where
   abbrev at_key : Key
   at_key = request.path.key
 
   abbrev pub PutWorks : Store → Answer → Store → Type 0
-  PutWorks = WorksOnStore (PutWork held partial request found) (PutCut held partial request found)
+  PutWorks = WorksOnStore (PutWork profile held partial request found) (PutCut profile held partial request found)
 
   -- no call was made
   pub works_unopened : (store : Store) → PutWorks store (Err dav_errors.Memory) store
@@ -300,32 +304,32 @@ module _ (held : Bodies) (partial : Bool) (request : DavRequest) (found : Option
       record {
         target = target;
         aimed = aimed;
-        left = put_steps held request target store.contents (store.contents.metas at_key);
+        left = put_steps profile held request target store.contents (store.contents.metas at_key);
         calls = refl;
         goes_on = tt;
-        leaves = record { untouched = λ _. refl; opened = λ g. absurd g; written = λ g. absurd g };
+        leaves = record { untouched = λ _. refl; opened = λ g. absurd g; written = λ g. absurd g; typed = λ g. absurd g };
       },
     );
   }
 
   -- the file isn't opened
-  pub works_declined : (e : FsError) (old new : Store) → ((e ≡ fs_errors.Memory) × (new ≡ old)) ⊎ Declines (open_call old.contents at_key (put_options request target)) e old new
-      → PutWorks old (Err (put_open_error (put_options request target) e)) new
+  pub works_declined : (e : FsError) (old new : Store) → ((e ≡ fs_errors.Memory) × (new ≡ old)) ⊎ Declines (open_call old.contents at_key (put_options profile request target)) e old new
+      → PutWorks old (Err (put_open_error (put_options profile request target) e)) new
   works_declined e old new (inl h) = rw (h.0, h.1) (works_unopened old)
   works_declined e old new (inr h) = record {
-    records = record_of (open_call old.contents at_key (put_options request target)) h.outcome ∷ [];
+    records = record_of (open_call old.contents at_key (put_options profile request target)) h.outcome ∷ [];
     recorded = h.recorded;
     fixed = h.fixed;
     done = inl (record {
       target = target;
       aimed = aimed;
-      answered = needs-declined (open_call old.contents at_key (put_options request target)) (put_open_error (put_options request target)) _ e h.outcome h.cause h.lawful;
-      leaves = record { untouched = λ _. h.same; opened = λ g. absurd (not_granted OpenFile at_key _ g (unlike e h.outcome h.cause)); written = λ g. absurd (not_this_op WriteBytes at_key _ g (λ x. cc)) };
+      answered = needs-declined (open_call old.contents at_key (put_options profile request target)) (put_open_error (put_options profile request target)) _ e h.outcome h.cause h.lawful;
+      leaves = record { untouched = λ _. h.same; opened = λ g. absurd (not_granted OpenFile at_key _ g (unlike e h.outcome h.cause)); written = λ g. absurd (not_this_op WriteBytes at_key _ g (λ x. cc)); typed = λ g. absurd (not_granted OpenFile at_key _ g (unlike e h.outcome h.cause)) };
     });
   }
 
   -- memory ran out on the way
-  pub works_cut : (old now : Store) (left : Option Meta → Dialogue (Option Meta)) → ((meta : Option Meta) → GoesOn (left meta)) → Reached held request target old now left → PutWorks old (Err dav_errors.Memory) now
+  pub works_cut : (old now : Store) (left : Option Meta → Dialogue (Option Meta)) → ((meta : Option Meta) → GoesOn (left meta)) → Reached profile held request target old now left → PutWorks old (Err dav_errors.Memory) now
   works_cut old now left goes_on h = record {
     records = h.records;
     recorded = h.recorded;
@@ -335,7 +339,7 @@ module _ (held : Bodies) (partial : Bool) (request : DavRequest) (found : Option
 
   -- a call on the file isn't granted
   pub works_stopped : (op : Op) (error : FsError → DavError) (old mid now : Store) (next : Option Meta → Dialogue (Option Meta)) (e : FsError) → error fs_errors.Memory ≡ dav_errors.Memory
-      → Reached held request target old mid (λ meta. needs (on_file op at_key) error (next meta)) → ((e ≡ fs_errors.Memory) × (now ≡ mid)) ⊎ Declines (file_call op mid.contents at_key) e mid now → PutWorks old (Err (error e)) now
+      → Reached profile held request target old mid (λ meta. needs (on_file op at_key) error (next meta)) → ((e ≡ fs_errors.Memory) × (now ≡ mid)) ⊎ Declines (file_call op mid.contents at_key) e mid now → PutWorks old (Err (error e)) now
   works_stopped op error old mid now next e memory h (inl m) = rw (m.0, m.1, memory) (works_cut old mid _ (λ _. tt) h)
   works_stopped op error old mid now next e memory h (inr d) =
       let there = at_file op mid.contents at_key h.bytes h.there in
@@ -348,12 +352,12 @@ module _ (held : Bodies) (partial : Bool) (request : DavRequest) (found : Option
           target = target;
           aimed = aimed;
           answered = LeadsTo-more _ _ _ h.records _ (h.calls (now.contents.metas at_key)) (needs-declined (on_file op at_key) error _ e d.outcome d.cause lawful);
-          leaves = leaves_more held request target h.records _ _ _ _ h.leaves d.same (λ g. not_granted OpenFile at_key _ g (unlike e d.outcome d.cause)) (λ g. not_granted WriteBytes at_key _ g (unlike e d.outcome d.cause));
+          leaves = leaves_more profile held request target h.records _ _ _ _ h.leaves d.same (λ g. not_granted OpenFile at_key _ g (unlike e d.outcome d.cause)) (λ g. not_granted WriteBytes at_key _ g (unlike e d.outcome d.cause));
         });
       }
 
   -- the place isn't sought
-  pub works_unsought : (old mid now : Store) (e : FsError) (left : Option Meta → Dialogue (Option Meta)) → Waits held request target old mid (λ meta. put_seek target at_key (left meta)) → SeeksPlace target mid at_key (Err e) now
+  pub works_unsought : (old mid now : Store) (e : FsError) (left : Option Meta → Dialogue (Option Meta)) → Waits profile held request target old mid (λ meta. put_seek target at_key (left meta)) → SeeksPlace target mid at_key (Err e) now
       → PutWorks old (Err (put_seek_error e)) now
   works_unsought old mid now e left h w = by_part target.part refl w
     where
@@ -361,26 +365,26 @@ module _ (held : Bodies) (partial : Bool) (request : DavRequest) (found : Option
       by_part false is seek = absurd (let no : Err e ≡ Ok tt = seek.0 in cc)
       by_part true is seek =
           works_stopped Seek put_seek_error old mid now left e refl
-          (subst (λ b. Reached held request target old mid (λ meta. if b then needs (on_file Seek at_key) put_seek_error (left meta) else left meta)) is h.reached) seek.declined
+          (subst (λ b. Reached profile held request target old mid (λ meta. if b then needs (on_file Seek at_key) put_seek_error (left meta) else left meta)) is h.reached) seek.declined
 
   -- the bytes aren't written
-  pub works_unfilled : (old mid now : Store) (file : DavFile) (bytes : List ℕ) (e : FsError) → new_bytes held request.body ≡ bytes → file ≡ placed held request target
-      → Waits held request target old mid (write_steps held request target) → WritesBody mid file bytes (Err e) now → PutWorks old (Err (from_fs e)) now
+  pub works_unfilled : (old mid now : Store) (file : DavFile) (bytes : List ℕ) (e : FsError) → new_bytes held request.body ≡ bytes → file ≡ placed profile held request target
+      → Waits profile held request target old mid (write_steps profile held request target) → WritesBody mid file bytes (Err e) now → PutWorks old (Err (from_fs e)) now
   works_unfilled old mid now file [] e is at h w = absurd (let no : Err e ≡ Ok tt = w.0 in cc)
   works_unfilled old mid now file (b ∷ bytes) e is at h w =
-      works_stopped WriteBytes from_fs old mid now (last_steps held request target) e refl
-      (subst (λ bytes. Reached held request target old mid (λ meta. put_write bytes at_key (last_steps held request target meta))) is h.reached)
+      works_stopped WriteBytes from_fs old mid now (last_steps profile held request target) e refl
+      (subst (λ bytes. Reached profile held request target old mid (λ meta. put_write bytes at_key (last_steps profile held request target meta))) is h.reached)
       (rw at at w.declined)
 
   -- the last lookup had no memory
-  pub works_unlooked : (old mid now : Store) (e : DavError) → Reached held request target old mid (look_up_by (on_file FileMetadata at_key)) → Judges (look_up_file mid.contents at_key) mid (Err e) now
+  pub works_unlooked : (old mid now : Store) (e : DavError) → Reached profile held request target old mid (look_up_by (on_file FileMetadata at_key)) → Judges (look_up_file mid.contents at_key) mid (Err e) now
       → PutWorks old (Err e) now
   works_unlooked old mid now e h j = ends j.ends
     where
       ends : EndsIn (look_up_file mid.contents at_key) j.records (Err e) → PutWorks old (Err e) now
       ends (inl r) = absurd (never _ _ j.records e r)
       ends (inr m) =
-          let asked = subst (λ d. LeadsTo d j.records m.1.0) (as_steps held request target mid.contents h.bytes h.there) m.1.1 in
+          let asked = subst (λ d. LeadsTo d j.records m.1.0) (as_steps profile held request target mid.contents h.bytes h.there) m.1.1 in
           rw m.0 (record {
             records = h.records ++ j.records;
             recorded = rw (j.recorded, h.recorded, append_assoc);
@@ -393,13 +397,13 @@ module _ (held : Bodies) (partial : Bool) (request : DavRequest) (found : Option
                 left = m.1.0;
                 calls = rw j.same (LeadsTo-more _ _ _ h.records j.records (h.calls (mid.contents.metas at_key)) asked);
                 goes_on = goes _ _ j.records m.1.0 asked;
-                leaves = leaves_looked held request target h.records j.records _ _ _ _ h.leaves j.same asked;
+                leaves = leaves_looked profile held request target h.records j.records _ _ _ _ h.leaves j.same asked;
               },
             );
           })
 
   -- the reply is made, or there was no memory for it
-  pub works_replied : (meta : Option Meta) (old now : Store) (result : Result (Response Body) DavError) → Looked held request target old now meta → IfOk result (λ reply. reply_of reply ≡ put_reply found meta) → IfErr result (λ e. e ≡ dav_errors.Memory)
+  pub works_replied : (meta : Option Meta) (old now : Store) (result : Result (Response Body) DavError) → Looked profile held request target old now meta → IfOk result (λ reply. reply_of reply ≡ put_reply found meta) → IfErr result (λ e. e ≡ dav_errors.Memory)
       → PutWorks old (answer_of result) now
   works_replied meta old now (Ok reply) h is _ = record {
     records = h.records;

@@ -5,6 +5,7 @@ use Rattle.std.specs.FinMap.{get, insert}
 use Rattle.std.specs.List.{list_any}
 use Rattle.dav_key.specs.Key.{Key, is_same_key, same_key_decides, tied_decides}
 use Rattle.dav_resource.specs.PathText.{PathValue}
+use Rattle.dav_resource.specs.declared.profile.Profile.{Profile}
 use Rattle.dav_resource.specs.declared.error.FsError.{FsError}
 use Rattle.dav_resource.specs.declared.record.Op.{Op}
 use Rattle.dav_resource.specs.declared.record.Op.TheVariants as ops
@@ -147,8 +148,8 @@ module _ (request : DavRequest) (key : Key) (records : List Logged) (old new : C
       by_call (inl made) = put_standing place key Directory old new (leaves.made made).tree (leaves.made made).properties (apart_by ops.CreateDir place key records (itself place) apart made)
       by_call (inr unmade) = same_standing key old new (leaves.untouched unmade)
 
-  pub write_stands : (held : Bodies) (target : Target) → PutLeaves held request target records old new → standing new key ≡ standing old key
-  write_stands held target leaves = by_calls (granted_or_not ops.OpenFile is_open place records) (granted_or_not ops.WriteBytes is_write place records)
+  pub write_stands : (profile : Profile) (held : Bodies) (target : Target) → PutLeaves profile held request target records old new → standing new key ≡ standing old key
+  write_stands profile held target leaves = by_calls (granted_or_not ops.OpenFile is_open place records) (granted_or_not ops.WriteBytes is_write place records)
     where
       by_calls : WasGranted ops.OpenFile place records ⊎ (WasGranted ops.OpenFile place records → ⊥) → WasGranted ops.WriteBytes place records ⊎ (WasGranted ops.WriteBytes place records → ⊥) → standing new key ≡ standing old key
       by_calls opened (inl written) = file_stands_at _ (leaves.written written) (apart_by ops.WriteBytes place key records (itself place) apart written)

@@ -100,8 +100,8 @@ module _ (request : DavRequest) (old new : State) where
   alone_same : new ≡ old → ChangesPathAlone request old new
   alone_same same = record { elsewhere = λ key apart. ap (λ (s : State). get s.contents.tree key) same; properties = ap (λ (s : State). s.contents.properties) same }
 
-  alone_put : (held : Bodies) (target : Target) (records : List Logged) → PutLeaves held request target records old.contents new.contents → ChangesPathAlone request old new
-  alone_put held target records leaves = by_calls (granted_or_not OpenFile is_open request.path.key records) (granted_or_not WriteBytes is_write request.path.key records)
+  alone_put : (profile : Profile) (held : Bodies) (target : Target) (records : List Logged) → PutLeaves profile held request target records old.contents new.contents → ChangesPathAlone request old new
+  alone_put profile held target records leaves = by_calls (granted_or_not OpenFile is_open request.path.key records) (granted_or_not WriteBytes is_write request.path.key records)
     where
       at : (bytes : List ℕ) → IsFileAt request.path.key bytes old.contents new.contents → ChangesPathAlone request old new
       at bytes file = record { elsewhere = λ key apart. ap (λ t. get t key) file.tree ∙ put_elsewhere old.contents.tree request.path.key key (File bytes) apart; properties = file.properties }
@@ -115,9 +115,9 @@ module _ (request : DavRequest) (old new : State) where
 
   pub alone_step : (partial : Bool) (settings : Settings) (records : List Logged) (answer : Answer) → StepBy (write_method partial) settings request old records answer new → ChangesPathAlone request old new
   alone_step partial settings records answer (Refused h) = alone_same h.same
-  alone_step partial settings records answer (Done h) = alone_put settings.facts.bodies h.work.0.target h.rest h.work.0.leaves
+  alone_step partial settings records answer (Done h) = alone_put settings.profile settings.facts.bodies h.work.0.target h.rest h.work.0.leaves
   alone_step partial settings records answer (CutShort h) = alone_same h.same
-  alone_step partial settings records answer (CutInWork h) = alone_put settings.facts.bodies h.work.0.target h.rest h.work.0.leaves
+  alone_step partial settings records answer (CutInWork h) = alone_put settings.profile settings.facts.bodies h.work.0.target h.rest h.work.0.leaves
 
 -- ---- a LOCK that isn't granted makes nothing
 

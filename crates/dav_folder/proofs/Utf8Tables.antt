@@ -59,9 +59,7 @@ module _ (m : Contents) (tree : Tree Kept) (stand : StandFor m tree) (numbered :
       cc
 
   resource_utf8 : (number : ℕ) (row : Row Kept) → HasRow tree number row → IsUtf8Resource (resource_values row)
-  resource_utf8 number row (key, at, is) =
-      let parts = row_parts tree key row is in
-      subst (λ name. IsUtf8 (unwrap_or name [])) parts.2 (name_utf8 key _ (sound.keys key (there key row.value parts.0)))
+  resource_utf8 number row has = (stand.kept number row has).readable
 
   -- a number has a row, or none
   row_or_none : (number : ℕ) → ((row : Row Kept) × HasRow tree number row) ⊎ HasNoRow tree number

@@ -42,6 +42,7 @@ module _ (rows : Rows) (image : Image) (tables : Contents) (are : AreRowsOfImage
         joined = tree.joined;
         numbered = tree.numbered;
         named = tree.named;
+        plain = tree.plain;
         within = λ key e is. content_within are.whole.end e.content (are.whole.below key e is);
       }
 

@@ -10,7 +10,7 @@ use Rattle.std.specs.Ordering.{int_cmp}
 use Rattle.std.specs.Option.{option_map}
 use Rattle.dav_data.specs.Data.{is_below}
 use Rattle.dav_key.specs.Key.{Key, key_cmp, key_cmp_total, key_cmp_exact}
-use Rattle.dav_nodes.specs.Rows.{Row, HasRow, AreJoined, AreNumbered}
+use Rattle.dav_nodes.specs.Rows.{Row, HasRow, AreJoined, AreNumbered, own_name}
 use Rattle.dav_nodes.specs.Tree.{Tree}
 use Rattle.dav_pieces.specs.Pieces.{piece_code}
 use Rattle.dav_pieces.specs.declared.piece.Piece.{Piece}
@@ -80,7 +80,7 @@ abbrev tree : Tree Kept
 tree = (first_image 0).tree
 
 abbrev pub root : Kept
-root = record { content = Directory; version = 0; created = 0; modified = 0; properties = empty }
+root = record { content = Directory; version = 0; created = 0; modified = 0; properties = empty; media_type = None }
 
 abbrev pub root_row : Row Kept
 root_row = record { above = Some 0; name = None; value = root }
@@ -99,6 +99,7 @@ first_sound = record {
   joined = joined;
   numbered = numbered;
   named = λ key e is. subst (λ (v : Kept). AreNamed v.properties) (sym (only_here root e key is).1) none_named;
+  plain = λ key e is s here. absurd (let clash : None ≡ Some s = sym (ap own_name (only_here root e key is).0) ∙ here in cc);
 }
   where
     joined : AreJoined tree

@@ -1,12 +1,13 @@
 -- What is kept of a store and its locks, and the tables that stand for it: this project's own choice.
 use Rattle.std.specs.Prelude.{◌≡◌, pos, List, [], ◌∷◌, map, Some}
 use Rattle.std.specs.FinMap.{get, entries}
+use Rattle.std.specs.Option.{ForSome}
 use Rattle.sqlite.specs.Tree.{Trees}
 use Rattle.dav_cells.specs.Locks.{kept_lock}
 use Rattle.dav_key.specs.Key.{Key}
 use Rattle.dav_memls.specs.MemLs.{list_of}
 use Rattle.dav_memls.specs.declared.memory_locks.MemLs.{MemLs}
-use Rattle.dav_nodes.specs.Rows.{AreDistinct, AreJoined, AreNumbered}
+use Rattle.dav_nodes.specs.Rows.{AreDistinct, AreJoined, AreNumbered, own_name}
 use Rattle.dav_nodes.specs.Tree.{Tree}
 use Rattle.dav_pieces.specs.declared.piece.Piece.{Piece}
 use Rattle.dav_rows.specs.Contents.{Contents, StateValues, Holds}
@@ -16,7 +17,7 @@ use Rattle.dav_store.specs.Locks.{AreCompatible}
 use Rattle.dav_store.specs.Store.{AreNamed}
 use Rattle.dav_store.specs.declared.lock.DavLock.{DavLock}
 use Rattle.dav_store_rows.specs.LockRows.{LocksStand}
-use Rattle.dav_store_rows.specs.Resources.{Kept}
+use Rattle.dav_store_rows.specs.Resources.{Kept, IsPlainName}
 use Rattle.dav_store_rows.specs.Stands.{StandFor}
 use Rattle.dav_tree.specs.Before.{entries_code}
 use Rattle.dav_tree.specs.TreeFs.{entries_of, memory_of}
@@ -50,14 +51,15 @@ pub record HoldsImage (db : Trees) (image : Image) : Type 0 where
 abbrev pub AreSameLocks : List DavLock → List DavLock → Type 0
 AreSameLocks one other = map kept_lock one ≡ map kept_lock other
 
--- the root has number 0, each key with a value has a number that no other key has, below a key without a number no key has one, and the properties'
--- elements have their names
+-- the root has number 0, each key with a value has a number that no other key has, below a key without a number no key has one, the properties'
+-- elements have their names, and no name has a slash
 pub record IsSoundTree (tree : Tree Kept) : Type 0 where
   pub root : get tree.numbers [] ≡ Some 0
   pub distinct : AreDistinct tree
   pub joined : AreJoined tree
   pub numbered : AreNumbered tree
   pub named : (key : Key) (e : Kept) → get tree.values key ≡ Some e → AreNamed e.properties
+  pub plain : (key : Key) (e : Kept) → get tree.values key ≡ Some e → ForSome (own_name key) IsPlainName
 
 -- what is so of each image of a store and a lock system
 pub record IsSound (image : Image) : Type 0 where

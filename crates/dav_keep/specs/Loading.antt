@@ -1,5 +1,5 @@
 -- What is loaded of a store that was kept: this project's own choice.
-use Rattle.std.specs.Prelude.{◌≡◌, ◌<◌, ◌^◌, ℕ, true, List, [], ◌∷◌, map, Some}
+use Rattle.std.specs.Prelude.{◌≡◌, ◌<◌, ◌^◌, ℕ, true, List, [], ◌∷◌, map, Some, None}
 use Rattle.std.specs.FinMap.{get, empty, entries}
 use Rattle.dav_cells.specs.Locks.{kept_lock}
 use Rattle.dav_data.specs.Data.{is_below}
@@ -58,7 +58,7 @@ pub record IsLoaded (image : Image) (loaded : Loaded) : Type 0 where
 -- the image of a new store: it has the root, and no locks
 abbrev pub first_image : ℕ → Image
 first_image key = record {
-  tree = root_tree (record { content = Directory; version = 0; created = 0; modified = 0; properties = empty });
+  tree = root_tree (record { content = Directory; version = 0; created = 0; modified = 0; properties = empty; media_type = None });
   locks = [];
   numbers = record { counter = 0; time = 0; batch = 0; key = key };
 }

@@ -87,11 +87,11 @@ not-Err e x same = cc
 
 -- the row of a value whose parts are those of a row of the tree
 pub one-is : (n : ℕ) (one : Row Kept) → HasPlace n one
-    → (number above version created modified : ℕ) (name : List ℕ) (content : Content (List Piece)) (properties : PropertyMap)
+    → (number above version created modified : ℕ) (name : List ℕ) (content : Content (List Piece)) (properties : PropertyMap) (media_type : Option (List ℕ))
     → number ≡ n → above ≡ unwrap_or one.above 0 → name ≡ unwrap_or one.name []
-    → content ≡ one.value.content → version ≡ one.value.version → created ≡ one.value.created → modified ≡ one.value.modified → properties ≡ one.value.properties
-    → ◌≡◌ {A = ℕ × Row Kept} (number, record { above = Some above; name = name_with number name; value = record { content = content; version = version; created = created; modified = modified; properties = properties } }) (n, one)
-one-is n one place number above version created modified name content properties number-is above-is name-is content-is version-is created-is modified-is properties-is =
+    → content ≡ one.value.content → version ≡ one.value.version → created ≡ one.value.created → modified ≡ one.value.modified → properties ≡ one.value.properties → media_type ≡ one.value.media_type
+    → ◌≡◌ {A = ℕ × Row Kept} (number, record { above = Some above; name = name_with number name; value = record { content = content; version = version; created = created; modified = modified; properties = properties; media_type = media_type } }) (n, one)
+one-is n one place number above version created modified name content properties media_type number-is above-is name-is content-is version-is created-is modified-is properties-is type-is =
     let has-above : Some above ≡ one.above = ap (λ k. Some k) above-is ∙ sym place.above in
     let has-name : name_with number name ≡ one.name = (λ i. name_with (number-is i) (name-is i)) ∙ place.name in
     λ i. (
@@ -99,7 +99,14 @@ one-is n one place number above version created modified name content properties
       record {
         above = has-above i;
         name = has-name i;
-        value = record { content = content-is i; version = version-is i; created = created-is i; modified = modified-is i; properties = properties-is i };
+        value = record {
+          content = content-is i;
+          version = version-is i;
+          created = created-is i;
+          modified = modified-is i;
+          properties = properties-is i;
+          media_type = type-is i;
+        };
       },
     )
 

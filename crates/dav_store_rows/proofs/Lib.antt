@@ -7,6 +7,7 @@ pub mod Updating
 pub mod Empty
 pub mod Ascending
 pub mod Maps
+pub mod Names
 pub mod Whole
 pub mod SoFar
 pub mod Decoding

@@ -1,6 +1,7 @@
 -- Changes that put all rows of a resource.
 use Rattle.std.proofs.Common.{◌≡◌, ℕ, ℤ, pos, List, [], ◌∷◌, ◌++◌, Some, None, refl, ap, arith}
 use Rattle.std.specs.FinMap.{insert, remove}
+use Rattle.std.specs.Str.{IsUtf8}
 use Rattle.dav_nodes.specs.Rows.{Row}
 use Rattle.dav_rows.specs.Contents.{ResourceValues}
 use Rattle.dav_rows.specs.Changes.{resource_entry}
@@ -17,16 +18,16 @@ use Rattle.dav_store_rows.proofs.Appending.{appends_none, appends_one, appends_t
 pub puts_no_extents : (number : ℕ) (before : List Change) → PutsExtents number [] 0 before before
 puts_no_extents number before = record { extents = []; are = record { groups = []; joined_are = refl; valid = tt; rows = refl }; count_is = refl; few = omega arith; appends = appends_none before }
 
-pub puts_rows : (number : ℕ) (row : Row Kept) (r : ResourceRow) (counts : Counts) (before first second now : List Change) → resource_entry r ≡ (pos number, resource_values row)
+pub puts_rows : (number : ℕ) (row : Row Kept) (r : ResourceRow) (counts : Counts) (before first second now : List Change) → resource_entry r ≡ (pos number, resource_values row) → IsUtf8 (resource_values row).name
     → first ≡ before ++ PutResource r ∷ [] → PutsExtents number (pieces_in row.value.content) counts.extents first second
     → PutsProperties number row.value.properties counts.properties second now → PutsRows number (Some row) counts before now
-puts_rows number row r counts before first second now is pushed e p =
+puts_rows number row r counts before first second now is readable pushed e p =
     let properties = properties_of number row.value.properties in
     let put = with_resource number (Some (resource_values row)) in
     record {
       extents = e.extents;
       properties = properties;
-      are = (e.are, record { rows_are = refl; decoded = p.decoded });
+      are = (e.are, record { rows_are = refl; decoded = p.decoded }, readable);
       extents_is = e.count_is;
       properties_is = p.count_is;
       few_extents = e.few;

@@ -22,6 +22,7 @@ module _ (a b : Contents) (kept : KeepsTreeTables a b) where
     extents = subst (λ m. HasExtents m number (pieces_in row.value.content)) (sym kept.extents) has.extents;
     properties = subst (λ m. HasParts m number (properties_of number row.value.properties)) (sym kept.properties) has.properties;
     decoded = has.decoded;
+    readable = has.readable;
   }
 
   same_no_rows : (number : ℕ) → HasNoRows a number → HasNoRows b number

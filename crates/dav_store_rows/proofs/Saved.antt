@@ -53,6 +53,7 @@ rows_of number (Some row) extents properties m are resource e p =
       extents = record { groups = are.0.groups; joined_are = are.0.joined_are; valid = are.0.valid; rows = subst (HasParts m.extents number) are.0.rows e };
       properties = subst (HasParts m.properties number) are.1.rows_are p;
       decoded = are.1.decoded;
+      readable = are.2;
     }
 
 -- the maps after a resource was saved

@@ -81,6 +81,7 @@ keeps_rows number other m n row apart kept has = record {
   };
   properties = keeps_parts number other _ m.properties n.properties apart kept.properties has.properties;
   decoded = has.decoded;
+  readable = has.readable;
 }
 
 keeps_no_rows : (number other : ℕ) (m n : Contents) → other ≢ number → KeepsOthers number m n → HasNoRows m other → HasNoRows n other

@@ -1,5 +1,6 @@
 -- Rows of numbers in the tree of a store.
 use Rattle.std.proofs.Common.{◌≡◌, ◌≢◌, ◌⊎◌, inl, inr, ◌-◌, true, false, ℕ, zero, suc, List, [], ◌∷◌, ◌++◌, length, Option, Some, None, get_or, is_some, refl, sym, ap, ◌∙◌, arith, length-append}
+use Rattle.std.specs.List.{list_any}
 use Rattle.std.specs.Option.{unwrap_or, option_map}
 use Rattle.std.specs.FinMap.{get}
 use Rattle.std.proofs.lemmas.Option.{same_Some}
@@ -10,7 +11,7 @@ use Rattle.dav_nodes.specs.TreeRows.{name_with}
 use Rattle.dav_key.proofs.FlatLemmas.{key_cases}
 use Rattle.std.proofs.lemmas.Option.{slice_get_read}
 use Rattle.std.proofs.Math.Seq.{get_or-append_seam}
-use Rattle.dav_store_rows.specs.Resources.{Kept}
+use Rattle.dav_store_rows.specs.Resources.{Kept, is_slash}
 use Rattle.dav_store_rows.specs.Loads.{IsWhole, HasPlace}
 use Rattle.dav_store_rows.proofs.Maps.{key-or-none}
 
@@ -89,6 +90,7 @@ root-place tree whole n row key at is root =
     record {
       above = above-is ∙ ap (λ o. Some (unwrap_or o 0)) (sym above-is);
       name = ap (λ k. name_with k (unwrap_or row.name [])) zero-is ∙ sym name-is;
+      plain = ap (λ o. list_any is_slash (unwrap_or o [])) name-is;
     }
 
 member-place : (tree : Tree Kept) → IsWhole tree → (n : ℕ) (row : Row Kept) (key : Key) (s : List ℕ) → get tree.numbers key ≡ Some n → row_of tree key ≡ Some row → key ≡ parent key ++ s ∷ [] → HasPlace n row
@@ -101,6 +103,7 @@ member-place tree whole n row key s at is last =
     record {
       above = sym parts.1 ∙ some-is (get tree.numbers (parent key)) has-above ∙ ap (λ o. Some (unwrap_or o 0)) parts.1;
       name = ap (λ o. name_with n (unwrap_or o [])) name-is ∙ named n s not-zero ∙ sym name-is;
+      plain = ap (λ o. list_any is_slash (unwrap_or o [])) name-is ∙ whole.plain key row.value parts.0 s (ap own_name last ∙ own_name-push (parent key) s);
     }
 
 -- each row of the tree has a parent, and a name unless it is the root's

@@ -1,11 +1,11 @@
 -- What the rows of a store say of its resources when they are loaded.
 use Rattle.std.specs.Prelude.{◌≡◌, ℕ, ℤ, pos, negsuc, ◌/◌, ◌==◌, Bool, true, false, List, [], map, Some, Result, MatchResult, is_some}
-use Rattle.std.specs.Option.{unwrap_or}
+use Rattle.std.specs.Option.{unwrap_or, ForSome}
 use Rattle.std.specs.FinMap.{get}
 use Rattle.dav_key.specs.Key.{Key}
 use Rattle.dav_store.specs.Store.{PropertyMap, AreNamed}
 use Rattle.dav_nodes.specs.Tree.{Tree}
-use Rattle.dav_nodes.specs.Rows.{Row, AreDistinct, AreJoined}
+use Rattle.dav_nodes.specs.Rows.{Row, AreDistinct, AreJoined, own_name}
 use Rattle.dav_nodes.specs.TreeRows.{name_with, numbered_row}
 use Rattle.dav_nodes.specs.declared.nodes.loading.NumberedValue.{NumberedValue}
 use Rattle.dav_tree.specs.declared.entry.Content.{Content}
@@ -19,7 +19,7 @@ use Rattle.dav_rows.specs.declared.resource.ResourceRow.{ResourceRow}
 use Rattle.dav_rows.specs.declared.extent.ExtentRow.{ExtentRow}
 use Rattle.dav_rows.specs.declared.property.PropertyRow.{PropertyRow}
 use Rattle.dav_store_rows.specs.Parts.{MOST}
-use Rattle.dav_store_rows.specs.Resources.{Kept, is_directory, pieces_in, resource_values, extents_from, joined, properties_of}
+use Rattle.dav_store_rows.specs.Resources.{Kept, IsPlainName, is_directory, pieces_in, resource_values, extents_from, joined, properties_of}
 use Rattle.dav_store_rows.specs.Stands.{AreDecoded, AreValid, StandFor}
 use Rattle.dav_store_rows.specs.declared.loading.LoadError.{LoadError}
 use Rattle.dav_store_rows.specs.declared.loading.LoadError.TheVariants.{Memory}
@@ -33,7 +33,7 @@ abbrev pub LoadsAs : {A : Type 0} → Result A LoadError → (A → Type 0) → 
 LoadsAs result P = MatchResult result P IsMemory
 
 -- what is so of each tree of a store: its root has number 0, and each key with a value has a number that no other key has; below a key without a
--- number no key has one; the properties' elements have their names, and the pieces of files are within their blocks
+-- number no key has one; the properties' elements have their names, the pieces of files are within their blocks, and no name has a slash
 pub record IsWhole (tree : Tree Kept) : Type 0 where
   pub root : get tree.numbers [] ≡ Some 0
   pub distinct : AreDistinct tree
@@ -41,6 +41,7 @@ pub record IsWhole (tree : Tree Kept) : Type 0 where
   pub numbered : (key : Key) → is_some (get tree.numbers key) ≡ is_some (get tree.values key)
   pub named : (key : Key) (e : Kept) → get tree.values key ≡ Some e → AreNamed e.properties
   pub within : (key : Key) (e : Kept) → get tree.values key ≡ Some e → are_within (pieces_in e.content) ≡ true
+  pub plain : (key : Key) (e : Kept) → get tree.values key ≡ Some e → ForSome (own_name key) IsPlainName
 
 -- the key is that of a part of the resource with this number
 abbrev pub is_part : ℕ → ℤ → Bool
@@ -79,10 +80,11 @@ pub record IsContent (directory : Bool) (size : ℤ) (pieces : List Piece) (cont
   pub pieces_are : pieces ≡ pieces_in content
   pub within : are_within (pieces_in content) ≡ true
 
--- the row has a parent, and it has a name unless its number is the root's
+-- the row has a parent, and it has a name unless its number is the root's; its name has no slash
 pub record HasPlace (number : ℕ) (row : Row Kept) : Type 0 where
   pub above : row.above ≡ Some (unwrap_or row.above 0)
   pub name : name_with number (unwrap_or row.name []) ≡ row.name
+  pub plain : IsPlainName (unwrap_or row.name [])
 
 -- the rows are those of this resource
 pub record IsOneResource (number : ℕ) (one : Row Kept) (row : ResourceRow) (extents : List ExtentRow) (properties : List PropertyRow) : Type 0 where

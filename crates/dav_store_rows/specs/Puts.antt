@@ -1,6 +1,7 @@
 -- Which rows are put for a resource.
 use Rattle.std.specs.Prelude.{◌≡◌, ◌≤◌, ℕ, List, [], map, length, Option, Some, None}
 use Rattle.std.specs.Option.{option_map}
+use Rattle.std.specs.Str.{IsUtf8}
 use Rattle.std.specs.FinMap.{entries}
 use Rattle.dav_resource.specs.declared.property.DavProp.{DavProp}
 use Rattle.dav_store.specs.Store.{PropertyMap}
@@ -27,11 +28,11 @@ pub record ArePropertyRows (number : ℕ) (properties : PropertyMap) (rows : Lis
   pub rows_are : rows ≡ properties_of number properties
   pub decoded : AreDecoded properties
 
--- these are the rows of the extents and of the properties of a resource, if there is one
+-- these are the rows of the extents and of the properties of a resource, if there is one, and the cell of its name is text
 abbrev pub AreRowsOf : ℕ → Option (Row Kept) → List ExtentValues → List PropertyValues → Type 0
 AreRowsOf number None extents properties = (extents ≡ []) × (properties ≡ [])
 AreRowsOf number (Some row) extents properties =
-    AreExtents number (pieces_in row.value.content) extents × ArePropertyRows number row.value.properties properties
+    AreExtents number (pieces_in row.value.content) extents × ArePropertyRows number row.value.properties properties × IsUtf8 (resource_values row).name
 
 -- changes are appended that put so many rows of pieces
 pub record PutsExtents (number : ℕ) (pieces : List Piece) (count : ℕ) (before now : List Change) : Type 0 where

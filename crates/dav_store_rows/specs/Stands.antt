@@ -1,6 +1,7 @@
 -- How the tables stand for the resources of a store.
 use Rattle.std.specs.Prelude.{◌≡◌, ◌≢◌, ℕ, ℤ, pos, true, List, [], Some, None}
 use Rattle.std.specs.List.{AllByRecursion}
+use Rattle.std.specs.Str.{IsUtf8}
 use Rattle.std.specs.FinMap.{get, entries}
 use Rattle.dav_store.specs.Store.{PropertyMap}
 use Rattle.dav_cells.specs.Pieces.{pieces_codec}
@@ -28,12 +29,13 @@ pub record HasExtents (m : Numbered ExtentValues) (number : ℕ) (pieces : List 
 abbrev pub AreDecoded : PropertyMap → Type 0
 AreDecoded properties = AllByRecursion (λ property. element_codec.is_valid property.1 ≡ true) (entries properties)
 
--- the rows of a number are those of this resource
+-- the rows of a number are those of this resource; the cell of its name is text
 pub record HasRows (m : Contents) (number : ℕ) (row : Row Kept) : Type 0 where
   pub resource : get m.resources (pos number) ≡ Some (resource_values row)
   pub extents : HasExtents m.extents number (pieces_in row.value.content)
   pub properties : HasParts m.properties number (properties_of number row.value.properties)
   pub decoded : AreDecoded row.value.properties
+  pub readable : IsUtf8 (resource_values row).name
 
 -- a number has no rows
 pub record HasNoRows (m : Contents) (number : ℕ) : Type 0 where

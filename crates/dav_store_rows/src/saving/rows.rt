@@ -1,6 +1,7 @@
 //! The rows of a resource.
 ghost use Rattle.std.specs.Prelude.{◌≡◌, ◌<◌, ◌^◌, [], pos, true, IfOk, IfErr, OnOk, string_bytes};
 ghost use Rattle.std.specs.Option.{unwrap_or, option_map, option_copied};
+ghost use Rattle.std.specs.Str.{IsUtf8};
 ghost use Rattle.dav_wire.specs.Writes.{IsEncoding};
 ghost use Rattle.dav_cells.specs.Elements.{element_codec};
 ghost use Rattle.dav_cells.specs.Pieces.{pieces_codec};
@@ -30,6 +31,7 @@ pub(super) fn resource_row(
     placed: &PlacedValue<'_, Entry<Body>>,
 ) -> Result<ResourceRow, SaveError>
     ensures row { IfOk result (λ row. resource_entry row ≡ (pos number, resource_values (row_in placed.now))) }
+    ensures readable { OnOk result (IsUtf8 (resource_values (row_in placed.now)).name) }
     ensures few { OnOk result (number < 2 ^ 63) }
     ensures err { IfErr result (FailsUnless (HasPartKeys number × FitsRow (row_in placed.now)) (Unit {0})) }
 {

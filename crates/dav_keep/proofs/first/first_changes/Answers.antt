@@ -14,7 +14,7 @@ unfolding row_with
 returns c =
     let made = c.new-root.ensures in
     let is : c.new-root.result ≡ root =
-    λ i. record { content = made.content i; version = made.version i; created = made.created i; modified = made.modified i; properties = made.properties i } in
+    λ i. record { content = made.content i; version = made.version i; created = made.created i; modified = made.modified i; properties = made.properties i; media_type = made.media_type i } in
     let counts = c.save_resource.new.self in
     let changes = c.save_resource.new.changes.items in
     let saves =

@@ -49,12 +49,14 @@ returns c n one is =
       pieces_are = c.in_ok-pieces.ensures (pieces_in one.value.content) (n, passed row.number n number-fits (ap (λ p. p.0) is.is), is.extents_are);
       within = is.within;
     } in
-    one-is n one is.place c.in_ok-unsigned.field-0 c.in_ok-unsigned-2.field-0 c.in_ok-version.version c.in_ok-created.created c.in_ok-modified.modified _ c.in_ok-content.content c.in_ok-properties.properties
+    let cell = c.split_cell.ensures (unwrap_or one.name []) one.value.media_type is.place.plain (c.as_str.ensures.value ∙ ap (λ p. p.1.name) is.is) in
+    one-is n one is.place c.in_ok-unsigned.field-0 c.in_ok-unsigned-2.field-0 c.in_ok-version.version c.in_ok-created.created c.in_ok-modified.modified _ c.in_ok-content.content c.in_ok-properties.properties _
     (same-Ok _ _ (c.in_ok-unsigned.ensures n (passed row.number n number-fits (ap (λ p. p.0) is.is))))
     (same-Ok _ _ (c.in_ok-unsigned-2.ensures (unwrap_or one.above 0) (passed row.parent (unwrap_or one.above 0) parent-fits (ap (λ p. p.1.parent) is.is))))
-    (c.in_ok-clone.ensures.cases ∙ ap (λ p. p.1.name) is.is)
+    (c.in_ok-from_str.ensures ∙ cell.0)
     (same-Ok _ _ (c.in_ok-content.ensures one.value.content is-content))
     (same-Ok _ _ (c.in_ok-version.ensures one.value.version (passed row.version one.value.version version-fits (ap (λ p. p.1.version) is.is))))
     (same-Ok _ _ (c.in_ok-created.ensures one.value.created (passed row.created one.value.created created-fits (ap (λ p. p.1.created) is.is))))
     (same-Ok _ _ (c.in_ok-modified.ensures one.value.modified (passed row.modified one.value.modified modified-fits (ap (λ p. p.1.modified) is.is))))
     (c.in_ok-properties.ensures one.value.properties (n, passed row.number n number-fits (ap (λ p. p.0) is.is), is.properties_are))
+    (c.in_ok-shared.ensures ∙ cell.1)
