@@ -29,7 +29,7 @@ use Rattle.dav_store.specs.Members.{remove_dir_bar, read_dir_bar, IsRemovedAt}
 use Rattle.dav_store.specs.Transfers.{copy_bar, rename_bar, IsCopiedTo, IsRenamedTo}
 use Rattle.dav_store.specs.PropertyCalls.{Patch, HasTimes, set_modified, set_created, patched, some_properties, properties_at, get_prop_bar, properties_bar, get_quota_bar, IsPatchedAt, ArePropertiesAt, PatchesProps, patch_props_call}
 use Rattle.dav_tree.specs.Memory as memory
-use Rattle.dav_tree.specs.Memory.{Stored, Resources, tree_of, properties_of, types_of, meta_of, contents_of, seen_of, change_at, with_bytes, patched_by, copy_of, fresh_file, facts_of, facts_by, made, made_as, emptied, emptied_at, without, copied, with_patches, marked, added, removed, marked_by_copy, copied_into, IsRenamed, IsRenamedAndMarked}
+use Rattle.dav_tree.specs.Memory.{Stored, Resources, tree_of, properties_of, types_of, meta_of, contents_of, seen_of, change_at, with_bytes, patched_by, copy_of, fresh, fresh_file, facts_of, facts_by, made, made_as, emptied, emptied_at, without, copied, with_patches, marked, added, removed, marked_by_copy, copied_into, IsRenamed, IsRenamedAndMarked}
 use Rattle.dav_tree.specs.MemoryCalls.{IsDue, YieldsOver, Yields, Gives, Records, RecordsWith, outcome_of, change_error, has_room, mark_error, member_error, error_of_copy, open_error, error_of_opening, opened, opened_from, file_error, write_error, written, copy_error, properties_error, IsPropertyList}
 use Rattle.dav_store.specs.Logged.{record_with}
 use Rattle.dav_tree.specs.Lawful.{node_in, get-tree, get-properties, get-types}
@@ -311,8 +311,8 @@ makes key old new free is =
     let none = nothing_kept (get old.resources key) (sym (get-tree old.resources key) ∙ free_bar _ (get (tree_of old.resources) (parent key)) free) in
     record {
       tree = ap (λ (m : memory.Memory). tree_of m.resources) is ∙ tree-put old.resources key _;
-      properties = ap (λ (m : memory.Memory). properties_of m.resources) is ∙ unchanged old.resources key _ refl none;
-      types = ap some_types is ∙ ap Some (untyped old.resources key _ refl none);
+      properties = ap (λ (m : memory.Memory). properties_of m.resources) is ∙ unchanged old.resources key (fresh Directory (old.version + 1) old.moment) refl none;
+      types = ap some_types is ∙ ap Some (untyped old.resources key (fresh Directory (old.version + 1) old.moment) refl none);
       limit = no_limit_change old new (ap (λ (m : memory.Memory). m.limit) is);
     }
 
