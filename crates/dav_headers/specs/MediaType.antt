@@ -1,5 +1,5 @@
 -- The media type that a request states for its body (RFC 9110, section 8.3), where it says something of the body. The bound is this project's own choice.
-use Rattle.std.specs.Prelude.{ℕ, ◌==◌, ◌&&◌, ◌||◌, not, Bool, List, length, map, codes, bytes_eq, nat_le, Option, Some, None, option_and_then, if◌then◌else◌}
+use Rattle.std.specs.Prelude.{ℕ, ◌==◌, ◌&&◌, not, Bool, List, length, map, codes, bytes_eq, nat_le, Option, Some, None, option_and_then, if◌then◌else◌}
 use Rattle.std.specs.List.{list_all, list_any, take_while}
 use Rattle.std.specs.Char.{to_ascii_lowercase}
 use Rattle.http_header.specs.HeaderMap.{Entries}
@@ -20,7 +20,7 @@ is_media_type text = nat_le (length text) 255 && (list_all is_printable text && 
 
 -- not the `;` or the space before the parameters
 abbrev pub is_type_byte : ℕ → Bool
-is_type_byte b = not (b == 59 || b == 32)
+is_type_byte b = not (b == 59) && not (b == 32)
 
 -- `application/octet-stream` in any case, with any parameters: any bytes (RFC 2046, section 4.5.1)
 abbrev pub is_octet_stream : List ℕ → Bool

@@ -1,6 +1,6 @@
 //! The media type that a request states for its body (RFC 9110, section 8.3).
-ghost use Rattle.std.specs.Prelude.{◌≡◌, IsOkAnd, option_copied, length};
-ghost use Rattle.std.specs.List.{list_all, list_any, take_while};
+ghost use Rattle.std.specs.Prelude.{◌≡◌, ◌≤◌, IsOkAnd, option_copied, length};
+ghost use Rattle.std.specs.List.{list_all, list_any, prefix_len};
 ghost use Rattle.dav_headers.specs.MediaType.{is_printable, is_slash, is_media_type, is_type_byte, is_octet_stream, is_known_type, media_type_in};
 
 use crate::values::first_text;
@@ -40,7 +40,14 @@ fn is_media_type(text: &[u8]) -> bool
 fn is_text(text: &[u8]) -> bool
     ensures { result ≡ list_all is_printable text.now }
 {
-    text.iter().all(|byte| 32 <= *byte && *byte <= 126)
+    text.iter().all(|byte| is_printable(*byte))
+}
+
+/// Whether a byte is a space or a visible character of ASCII.
+fn is_printable(byte: u8) -> bool
+    ensures { result ≡ is_printable byte }
+{
+    32 <= byte && byte <= 126
 }
 
 /// Whether there is a `/`.
@@ -54,15 +61,21 @@ fn has_slash(text: &[u8]) -> bool
 fn is_octet_stream(text: &[u8]) -> bool
     ensures { result ≡ is_octet_stream text.now }
 {
-    let name = &text[..type_len(text)];
+    let (name, _) = text.split_at(type_len(text));
     name.eq_ignore_ascii_case(b"application/octet-stream")
 }
 
 /// Returns how many bytes there are before the parameters.
 fn type_len(text: &[u8]) -> usize
-    ensures { result ≡ length (take_while is_type_byte text.now) }
+    ensures len { result ≡ prefix_len is_type_byte text.now }
+    ensures within { result ≤ length text.now }
 {
-    text.iter()
-        .take_while(|byte| !(**byte == b';' || **byte == b' '))
-        .count()
+    text.iter().take_while(|byte| is_type_byte(**byte)).count()
+}
+
+/// Whether a byte is neither the `;` nor the space before the parameters.
+fn is_type_byte(byte: u8) -> bool
+    ensures { result ≡ is_type_byte byte }
+{
+    byte != b';' && byte != b' '
 }
