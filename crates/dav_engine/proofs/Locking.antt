@@ -18,8 +18,8 @@ use Rattle.dav_resource.specs.declared.request.Body.{Body}
 use Rattle.dav_resource.specs.declared.request.DavRequest.{DavRequest}
 use Rattle.dav_resource.specs.declared.profile.Profile.{Profile}
 use Rattle.dav_headers.specs.LockToken.{lock_token_of}
-use Rattle.dav_store.specs.Store.{Store, Contents, Bodies, Node, File, Directory}
-use Rattle.dav_store.specs.Calls.{Call, Grants, Declines, IsOpened, open_call, open_bar, record_of, bytes_at}
+use Rattle.dav_store.specs.Store.{Store, Contents, Types, Bodies, Node, File, Directory}
+use Rattle.dav_store.specs.Calls.{Call, Grants, Declines, IsOpened, open_call, open_bar, opened_types, record_of, bytes_at}
 use Rattle.dav_store.specs.Locks.{Locks, all_reliable, grants}
 use Rattle.dav_store.specs.LockCalls.{AddsLock, RemovesLock, RefreshesLock, KeepsNamed, has_named, without_named, is_named, refreshed}
 use Rattle.dav_store.specs.LockLaws.{granted_named, granted_without}
@@ -31,7 +31,7 @@ use Rattle.dav_messages.specs.Reply.{Reply, Answer, reply_of, answer_of}
 use Rattle.dav_engine.specs.Answered.{Unbegun}
 use Rattle.dav_engine.specs.LockInfo.{lock_info_of, lock_info_verdict}
 use Rattle.dav_engine.specs.LockReply.{granted_reply, refreshed_reply, unlocked_reply}
-use Rattle.dav_engine.specs.Locking.{refresh_rules, new_lock_rules, lock_asked, AddsToLocks, TakesBack, lock_open_error, HasFile, AnswersLock, NewLockWork, NewLockCut, refresh_timeout, RefreshWork, RefreshCut, LockWorkBy, LockCutBy, LockWork, LockCut, is_refresh, lock_rules}
+use Rattle.dav_engine.specs.Locking.{refresh_rules, new_lock_rules, lock_asked, AddsToLocks, TakesBack, lock_open_error, HasFile, made_types, AnswersLock, NewLockWork, NewLockCut, refresh_timeout, RefreshWork, RefreshCut, LockWorkBy, LockCutBy, LockWork, LockCut, is_refresh, lock_rules}
 use Rattle.dav_engine.specs.Opening.{making_options}
 use Rattle.dav_engine.specs.declared.lock_info.LockInfo.{LockInfo}
 use Rattle.dav_engine.specs.Rules.{judged, holding}
@@ -109,8 +109,13 @@ module _ (profile : Profile) (request : DavRequest) (lock : DavLock) where
   has_file file old new allowed h = record {
     made = λ nothing. record { tree = h.tree ∙ ap (λ node. insert old.tree request.path.key (File (bytes_at node))) nothing; properties = h.properties; limit = h.limit };
     kept = λ there. (kept_node (get old.tree request.path.key) refl there, h.properties, h.limit);
+    typed = h.types ∙ same_types (get old.tree request.path.key) old.types;
   }
     where
+      same_types : (there : Option Node) (types : Option Types) → option_map (opened_types (making_options request) request.path.key there) types ≡ option_map (made_types request.path.key there) types
+      same_types None types = refl
+      same_types (Some node) types = refl
+
       kept_node : (node : Option Node) → get old.tree request.path.key ≡ node → (get old.tree request.path.key ≢ None) → new.tree ≡ old.tree
       kept_node None is there = absurd (there is)
       kept_node (Some (File bytes)) is there = h.tree ∙ ap (λ n. insert old.tree request.path.key (File (bytes_at n))) is ∙ insert-there old.tree request.path.key (File bytes) is

@@ -2,7 +2,7 @@
 use Rattle.std.specs.Prelude.{◌≡◌, ◌≢◌, ℕ, min, Bool, true, false, if◌then◌else◌, List, [], ◌∷◌, ◌++◌, Option, Some, None, is_some, option_map, Result, Ok, Err, ◌⊎◌}
 use Rattle.std.specs.Option.{option_map_or}
 use Rattle.std.specs.List.{find}
-use Rattle.std.specs.FinMap.{get}
+use Rattle.std.specs.FinMap.{get, remove}
 use Rattle.dav_key.specs.Key.{Key}
 use Rattle.dav_resource.specs.declared.meta.Meta.{Meta}
 use Rattle.dav_resource.specs.declared.meta.OpenOptions.{OpenOptions}
@@ -18,7 +18,7 @@ use Rattle.dav_headers.specs.Timeout.{timeout_of}
 use Rattle.dav_headers.specs.declared.timeout.DavTimeout.{DavTimeout}
 use Rattle.dav_headers.specs.declared.timeout.DavTimeout.TheVariants.{Infinite, Seconds}
 use Rattle.dav_store.specs.Logged.{Logged}
-use Rattle.dav_store.specs.Store.{Contents, Bodies}
+use Rattle.dav_store.specs.Store.{Contents, Node, Types, Bodies}
 use Rattle.dav_store.specs.Calls.{open_call, limit_of}
 use Rattle.dav_store.specs.Locks.{Locks, grants}
 use Rattle.dav_store.specs.LockCalls.{asked_lock, is_named, has_named, refreshed, with_refreshed, RefreshesLock}
@@ -134,10 +134,16 @@ abbrev pub file_steps : DavRequest → Option Meta → Contents → Dialogue (Un
 file_steps request (Some meta) old = Passed tt
 file_steps request None old = needs (open_call old request.path.key (making_options request)) (lock_open_error (making_options request)) (Passed tt)
 
+-- the media types where a file was created if nothing existed at the key: it has none
+abbrev pub made_types : Key → Option Node → Types → Types
+made_types key None types = remove types key
+made_types key (Some node) types = types
+
 -- if nothing existed at the key, an empty file does now (`IsFileAt`); if something did, the tree, the properties and the quota's limit are unchanged
 pub record HasFile (key : Key) (old new : Contents) : Type 0 where
   pub made : get old.tree key ≡ None → IsFileAt key [] old new
   pub kept : get old.tree key ≢ None → (new.tree ≡ old.tree) × (new.properties ≡ old.properties) × (limit_of new ≡ limit_of old)
+  pub typed : new.types ≡ option_map (made_types key (get old.tree key)) old.types
 
 -- if the call that opens the file was granted, `HasFile` holds; otherwise nothing changes
 abbrev pub FileLeaves : DavRequest → List Logged → Contents → Contents → Type 0

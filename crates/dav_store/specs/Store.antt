@@ -99,12 +99,15 @@ abbrev pub AreNamed : PropertyMap → Type 0
 AreNamed properties = (name : Key) (element : elements.Tree) → get properties name ≡ Some element → element_key element ≡ name
 
 -- the media type that is kept at a key, if there is one
+abbrev pub type_in : Option Types → Key → Option (List ℕ)
+type_in types key = option_and_then (λ (t : Types). get t key) types
+
 abbrev pub type_at : Contents → Key → Option (List ℕ)
-type_at contents key = option_and_then (λ (types : Types). get types key) contents.types
+type_at contents key = type_in contents.types key
 
 -- the root is a directory, and so is the parent of each key at which something exists; each such key is a valid key; a key at which nothing exists
--- has no properties and no media type, and no key has an empty map of properties; the properties' elements have their names; the metadata fits the
--- tree, and has the media type that is kept
+-- has no properties, and no key has an empty map of them; the properties' elements have their names; the metadata fits the tree, and has the media type
+-- that is kept
 pub record IsWellFormed (contents : Contents) : Type 0 where
   pub root : get contents.tree [] ≡ Some Directory
   pub parents : (key : Key) → get contents.tree key ≢ None → get contents.tree (parent key) ≡ Some Directory
@@ -113,8 +116,7 @@ pub record IsWellFormed (contents : Contents) : Type 0 where
   pub none_empty : (key : Key) → get contents.properties key ≢ Some empty
   pub named : (key : Key) → ForSome (get contents.properties key) AreNamed
   pub metas : (key : Key) → MetaFits (get contents.tree key) (contents.metas key)
-  pub types : (key : Key) → get contents.tree key ≡ None → type_at contents key ≡ None
-  pub shown_types : (key : Key) → ForSome (contents.metas key) (λ (meta : Meta). meta.media_type ≡ type_at contents key)
+  pub types : (key : Key) → ForSome (contents.metas key) (λ (meta : Meta). meta.media_type ≡ type_at contents key)
 
 -- the entity tag in the metadata, if it has one, begins with these bytes
 abbrev pub HasTagFrom : List ℕ → Meta → Type 0

@@ -69,10 +69,6 @@ named_kept (Some s) named properties e = subst AreNamed (only_same s.properties 
 pub get-types : (resources : Resources) (key : Key) → get (types_of resources) key ≡ option_and_then (λ (s : Stored). s.media_type) (get resources key)
 get-types resources key = get-each (λ (s : Stored). s.media_type) resources key
 
-no_type : (o : Option Stored) → option_map node_in o ≡ None → option_and_then (λ (s : Stored). s.media_type) o ≡ None
-no_type None e = refl
-no_type (Some s) e = absurd cc
-
 shown_type : (part : Option ℕ) (o : Option Stored) → ForSome (option_map (meta_of part) o) (λ (meta : Meta). meta.media_type ≡ option_and_then (λ (s : Stored). s.media_type) o)
 shown_type part None meta e = absurd cc
 shown_type part (Some s) meta e = let is : meta_of part s ≡ meta = cc in ap (λ (m : Meta). m.media_type) (sym is)
@@ -143,7 +139,6 @@ is_well_formed memory sound = record {
   named = λ key. subst (λ o. ForSome o AreNamed) (sym (get-properties memory.resources key))
       (named_kept (get memory.resources key) (sound.named key));
   metas = λ key. subst (λ o. MetaFits o (option_map (meta_of memory.tag_part) (get memory.resources key))) (sym (get-tree memory.resources key)) (meta_fits memory.tag_part (get memory.resources key));
-  types = λ key none. get-types memory.resources key ∙ no_type (get memory.resources key) (sym (get-tree memory.resources key) ∙ none);
-  shown_types = λ key. subst (λ kept. ForSome (option_map (meta_of memory.tag_part) (get memory.resources key)) (λ (meta : Meta). meta.media_type ≡ kept)) (sym (get-types memory.resources key))
+  types = λ key. subst (λ kept. ForSome (option_map (meta_of memory.tag_part) (get memory.resources key)) (λ (meta : Meta). meta.media_type ≡ kept)) (sym (get-types memory.resources key))
       (shown_type memory.tag_part (get memory.resources key));
 }
