@@ -1,13 +1,16 @@
 -- MKCOL, PUT, PATCH and the empty file of a LOCK, over contents that look alike: a caller cannot distinguish them, and what they leave looks alike too.
 use Rattle.std.proofs.Common.{◌≡◌, ◌⊎◌, ◌∙◌, ◌+◌, ◌-◌, ℕ, Bool, true, false, List, [], ◌∷◌, ◌++◌, length, Option, Some, None, Ok, Err, refl, sym, ap, subst, inl, inr, if◌then◌else◌, min}
 use Rattle.std.specs.Prelude.{not, take, drop, replicate}
+use Rattle.std.specs.Option.{option_map}
 use Rattle.std.specs.FinMap.{get}
 use Rattle.std.proofs.lemmas.List.{length-append, length-take, length-drop, length-replicate}
+use Rattle.dav_key.specs.Below.{put_at}
 use Rattle.dav_key.specs.Key.{Key}
 use Rattle.dav_resource.specs.Errors.{from_fs}
 use Rattle.dav_resource.specs.declared.error.DavError.{DavError}
 use Rattle.dav_resource.specs.declared.error.FsError.{FsError}
 use Rattle.dav_resource.specs.declared.meta.Meta.{Meta}
+use Rattle.dav_resource.specs.declared.meta.OpenOptions.{OpenOptions}
 use Rattle.dav_resource.specs.declared.record.Op.{Op}
 use Rattle.dav_resource.specs.declared.record.Op.TheVariants as ops
 use Rattle.dav_resource.specs.declared.record.Outcome.{Outcome}
@@ -15,8 +18,8 @@ use Rattle.dav_resource.specs.declared.record.Outcome.TheVariants.{Granted, Barr
 use Rattle.dav_resource.specs.declared.request.DavRequest.{DavRequest}
 use Rattle.dav_resource.specs.declared.profile.Profile.{Profile}
 use Rattle.dav_store.specs.Logged.{Logged, logged}
-use Rattle.dav_store.specs.Store.{Node, Bodies, Contents}
-use Rattle.dav_store.specs.Calls.{Call, create_dir_call, open_call, bytes_at, written_at}
+use Rattle.dav_store.specs.Store.{Node, Types, Bodies, Contents}
+use Rattle.dav_store.specs.Calls.{Call, create_dir_call, open_call, opened_types, bytes_at, written_at}
 use Rattle.dav_store.specs.Members.{IsIn}
 use Rattle.dav_store.specs.declared.lock.DavLock.{DavLock}
 use Rattle.dav_key.specs.EachLaws.{put_at-same}
@@ -24,16 +27,16 @@ use Rattle.dav_messages.specs.Dialogue.{Dialogue, Asks, Refuses, Passed, needs, 
 use Rattle.dav_messages.specs.Reply.{Reply, Answer}
 use Rattle.dav_walks.specs.KeyCall.{standing}
 use Rattle.dav_engine.specs.Answered.{IsAnswered}
-use Rattle.dav_engine.specs.Locking.{file_steps, HasFile, FileLeaves, AnswersLock, lock_open_error}
+use Rattle.dav_engine.specs.Locking.{file_steps, HasFile, made_types, FileLeaves, AnswersLock, lock_open_error}
 use Rattle.dav_engine.specs.LockReply.{granted_reply}
 use Rattle.dav_engine.specs.Mkcol.{mkcol_steps, mkcol_error, mkcol_reply, MkcolLeaves, MkcolWork}
 use Rattle.dav_engine.specs.Opening.{making_options, IsFileAt}
 use Rattle.dav_engine.specs.Put.{new_bytes, put_options, put_open_error, on_file, put_seek_error, put_seek, put_write, look_up_by, put_steps, opened_bytes, final_bytes, PutLeaves, PutWork, PutCut}
 use Rattle.dav_engine.specs.PutReply.{put_reply}
 use Rattle.dav_engine.specs.Target.{within_reach}
-use Rattle.dav_access.specs.Sight.{Sight, AreSeen}
+use Rattle.dav_access.specs.Sight.{Sight, kind, LookTyped, AreSeen}
 use Rattle.dav_access.proofs.AlikeCalls.{same_none, same_make, same_open}
-use Rattle.dav_access.proofs.AlikeChanges.{Follows, followed, followed_alike, follows_same, follows_put, follows_made, follows_file}
+use Rattle.dav_access.proofs.AlikeChanges.{Follows, followed, followed_alike, follows_same, follows_put, follows_made, follows_file, typed_put}
 use Rattle.dav_access.proofs.AlikeDialogues.{IsSeen, Alike, alike_asks, alike_needs, alike_leads, alike_passes, alike_refuses, alike_goes_on, following}
 use Rattle.dav_access.proofs.Shadow.{Standing, Mirrored, looks_alike}
 
@@ -186,7 +189,35 @@ module _ (sight : Sight) (request : DavRequest) (old new other : Contents) (alik
 
   -- ---- PUT and PATCH
 
-  module _ (held : Bodies) (target : Target) where
+  -- ---- media types
+
+  -- media types that no call changes
+  typed_kept : (one another : Option Types) → LookTyped sight one another → LookTyped sight (option_map (λ (t : Types). t) one) (option_map (λ (t : Types). t) another)
+  typed_kept None None typed = typed
+  typed_kept None (Some b) typed = absurd (let no : true ≡ false = typed.keeps in cc)
+  typed_kept (Some a) None typed = absurd (let no : false ≡ true = typed.keeps in cc)
+  typed_kept (Some a) (Some b) typed = typed
+
+  -- those after an open
+  typed_opened : (options : OpenOptions) (key : Key) (node mine : Option Node) → option_map kind mine ≡ option_map kind node
+      → LookTyped sight (option_map (opened_types options key node) old.types) (option_map (opened_types options key mine) other.types)
+  typed_opened options key None None kinds = typed_put sight old new other alike old.types other.types key options.media_type options.media_type (λ _. refl) alike.types
+  typed_opened options key None (Some mine) kinds = absurd cc
+  typed_opened options key (Some node) None kinds = absurd cc
+  typed_opened options key (Some node) (Some mine) kinds =
+      elim options.truncate as (λ b. LookTyped sight (option_map (λ (t : Types). if b then put_at t key options.media_type else t) old.types) (option_map (λ (t : Types). if b then put_at t key options.media_type else t) other.types)) [
+        | true ↦ typed_put sight old new other alike old.types other.types key options.media_type options.media_type (λ _. refl) alike.types
+        | false ↦ typed_kept old.types other.types alike.types
+      ]
+
+  -- those after a file was made, if nothing was there
+  typed_made : (key : Key) (node mine : Option Node) → option_map kind mine ≡ option_map kind node → LookTyped sight (option_map (made_types key node) old.types) (option_map (made_types key mine) other.types)
+  typed_made key None None kinds = typed_put sight old new other alike old.types other.types key None None (λ _. refl) alike.types
+  typed_made key None (Some mine) kinds = absurd cc
+  typed_made key (Some node) None kinds = absurd cc
+  typed_made key (Some node) (Some mine) kinds = typed_kept old.types other.types alike.types
+
+  module _ (profile : Profile) (held : Bodies) (target : Target) where
     alike_look_up_by : (meta another : Option Meta) → (sight.lists request.path.key ≡ true → another ≡ meta) → Alike sight (look_up_by (on_file ops.FileMetadata request.path.key) meta) (look_up_by (on_file ops.FileMetadata request.path.key) another)
     alike_look_up_by meta another same =
         alike_asks sight (on_file ops.FileMetadata request.path.key) (on_file ops.FileMetadata request.path.key) (λ outcome. Passed (if_granted outcome meta)) (λ outcome. Passed (if_granted outcome another)) refl by
@@ -207,10 +238,10 @@ module _ (sight : Sight) (request : DavRequest) (old new other : Contents) (alik
         by true = alike_needs sight (on_file ops.Seek request.path.key) (on_file ops.Seek request.path.key) put_seek_error one another refl (λ _. alike)
         by false = alike
 
-    alike_steps : (meta another : Option Meta) → (sight.lists request.path.key ≡ true → another ≡ meta) → Alike sight (put_steps held request target old meta) (put_steps held request target other another)
+    alike_steps : (meta another : Option Meta) → (sight.lists request.path.key ≡ true → another ≡ meta) → Alike sight (put_steps profile held request target old meta) (put_steps profile held request target other another)
     alike_steps meta another same =
-        alike_needs sight (open_call old request.path.key (put_options request target)) (open_call other request.path.key (put_options request target)) (put_open_error (put_options request target)) _ _
-        (same_open sight old other (looks_alike sight old other alike) request.path.key (put_options request target)) (λ _.
+        alike_needs sight (open_call old request.path.key (put_options profile request target)) (open_call other request.path.key (put_options profile request target)) (put_open_error (put_options profile request target)) _ _
+        (same_open sight old other (looks_alike sight old other alike) request.path.key (put_options profile request target)) (λ _.
         alike_seek _ _ (alike_write (new_bytes held request.body) _ _ (
         alike_needs sight (on_file ops.Flush request.path.key) (on_file ops.Flush request.path.key) from_fs (look_up_by (on_file ops.FileMetadata request.path.key) meta) (look_up_by (on_file ops.FileMetadata request.path.key) another) refl (λ _.
         alike_look_up_by meta another same))))
@@ -226,9 +257,9 @@ module _ (sight : Sight) (request : DavRequest) (old new other : Contents) (alik
         by true = on_needs request.path.key (on_file ops.Seek request.path.key) put_seek_error next refl on
         by false = on
 
-    on_steps : (meta : Option Meta) → AsksOn request.path.key (put_steps held request target old meta)
+    on_steps : (meta : Option Meta) → AsksOn request.path.key (put_steps profile held request target old meta)
     on_steps meta =
-        on_needs request.path.key (open_call old request.path.key (put_options request target)) (put_open_error (put_options request target)) _ refl (
+        on_needs request.path.key (open_call old request.path.key (put_options profile request target)) (put_open_error (put_options profile request target)) _ refl (
         on_seek _ (on_write (new_bytes held request.body) _ (
         on_needs request.path.key (on_file ops.Flush request.path.key) from_fs (look_up_by (on_file ops.FileMetadata request.path.key) meta) refl (refl, λ outcome. tt))))
 
@@ -261,83 +292,100 @@ module _ (sight : Sight) (request : DavRequest) (old new other : Contents) (alik
         by true = same
         by false = refl
 
+    -- the media types after the open
+    abbrev types_opened : Contents → Types → Types
+    types_opened contents = opened_types (put_options profile request target) request.path.key (get contents.tree request.path.key)
+
     -- a file made of what was there looks alike
     follows_bytes : (make : List ℕ → List ℕ) → ((bytes others : List ℕ) → length others ≡ length bytes → length (make others) ≡ length (make bytes))
-        → IsFileAt request.path.key (make (bytes_at (get old.tree request.path.key))) old new → Follows sight new (IsFileAt request.path.key (make (bytes_at (get other.tree request.path.key))) other)
-    follows_bytes make sizes =
+        → IsFileAt request.path.key (make (bytes_at (get old.tree request.path.key))) old new → new.types ≡ option_map (types_opened old) old.types
+        → Follows sight new (λ after. IsFileAt request.path.key (make (bytes_at (get other.tree request.path.key))) other after × (after.types ≡ option_map (types_opened other) other.types))
+    follows_bytes make sizes file types =
         follows_file sight old new other alike request.path.key (make (bytes_at (get old.tree request.path.key))) (make (bytes_at (get other.tree request.path.key)))
+        (option_map (types_opened old)) (option_map (types_opened other))
         (λ lists. sizes (bytes_at (get old.tree request.path.key)) (bytes_at (get other.tree request.path.key)) ((alike.like request.path.key).sizes lists))
-        (λ reads. ap (λ (s : Standing). make (bytes_at s.0)) ((alike.like request.path.key).read reads))
+        (λ reads. ap (λ (s : Standing). make (bytes_at s.0)) ((alike.like request.path.key).read reads)) file types
+        (typed_opened (put_options profile request target) request.path.key (get old.tree request.path.key) (get other.tree request.path.key) (alike.like request.path.key).kinds)
 
-    follows_leaves : (meta : Option Meta) (left : Dialogue (Option Meta)) (records : List Logged) → LeadsTo (put_steps held request target old meta) records left → PutLeaves held request target records old new → Follows sight new (λ after. PutLeaves held request target records other after)
+    follows_leaves : (meta : Option Meta) (left : Dialogue (Option Meta)) (records : List Logged) → LeadsTo (put_steps profile held request target old meta) records left → PutLeaves profile held request target records old new → Follows sight new (λ after. PutLeaves profile held request target records other after)
     unfolding is_open is_write
     follows_leaves meta left records leads leaves =
         by (granted_or_not ops.OpenFile is_open refl only_open request.path.key records on) (granted_or_not ops.WriteBytes is_write refl only_write request.path.key records on)
       where
         on : (call : Logged) → IsIn call records → IsOn request.path.key call
-        on = are_on request.path.key (put_steps held request target old meta) left records (on_steps meta) leads
+        on = are_on request.path.key (put_steps profile held request target old meta) left records (on_steps meta) leads
 
         unwritten : (¬ (WasGranted ops.OpenFile request.path.key records)) → ¬ (WasGranted ops.WriteBytes request.path.key records)
-        unwritten none = none_behind (open_call old request.path.key (put_options request target)) (put_open_error (put_options request target)) _ left ops.WriteBytes request.path.key records refl leads none
+        unwritten none = none_behind (open_call old request.path.key (put_options profile request target)) (put_open_error (put_options profile request target)) _ left ops.WriteBytes request.path.key records refl leads none
 
         by : WasGranted ops.OpenFile request.path.key records ⊎ (¬ (WasGranted ops.OpenFile request.path.key records)) → WasGranted ops.WriteBytes request.path.key records ⊎ (¬ (WasGranted ops.WriteBytes request.path.key records))
-            → Follows sight new (λ after. PutLeaves held request target records other after)
+            → Follows sight new (λ after. PutLeaves profile held request target records other after)
         by (inl opens) (inl write) = followed (λ after file. record {
           untouched = λ none. absurd (none opens);
           opened = λ _ none. absurd (none write);
-          written = λ _. file;
-        }) (follows_bytes (final_bytes target (new_bytes held request.body)) (final_size (new_bytes held request.body)) (leaves.written write))
+          written = λ _. file.0;
+          typed = λ _. file.1;
+        }) (follows_bytes (final_bytes target (new_bytes held request.body)) (final_size (new_bytes held request.body)) (leaves.written write) (leaves.typed opens))
         by (inl opens) (inr none) = followed (λ after file. record {
           untouched = λ closed. absurd (closed opens);
-          opened = λ _ _. file;
+          opened = λ _ _. file.0;
           written = λ write. absurd (none write);
-        }) (follows_bytes (opened_bytes target) opened_size (leaves.opened opens none))
+          typed = λ _. file.1;
+        }) (follows_bytes (opened_bytes target) opened_size (leaves.opened opens none) (leaves.typed opens))
         by (inr closed) written = followed (λ after same. record {
           untouched = λ _. same;
           opened = λ opens. absurd (closed opens);
           written = λ write. absurd (unwritten closed write);
+          typed = λ opens. absurd (closed opens);
         }) (follows_same alike (leaves.untouched closed))
 
-  module _ (held : Bodies) (partial : Bool) (found : Option Meta) where
-    pub follows_put_work : (records : List Logged) (answer : Answer) → AreSeen sight records → PutWork held partial request found old records answer new → Follows sight new (λ after. PutWork held partial request found other records answer after)
+  module _ (profile : Profile) (held : Bodies) (partial : Bool) (found : Option Meta) where
+    pub follows_put_work : (records : List Logged) (answer : Answer) → AreSeen sight records → PutWork profile held partial request found old records answer new → Follows sight new (λ after. PutWork profile held partial request found other records answer after)
     follows_put_work records answer seen work =
-        let led = answered_leads (put_steps held request work.target old (new.metas request.path.key)) (λ meta reply. reply ≡ put_reply found meta) records answer work.answered in
+        let led = answered_leads (put_steps profile held request work.target old (new.metas request.path.key)) (λ meta reply. reply ≡ put_reply found meta) records answer work.answered in
         followed_alike (λ after like leaves. record {
           target = work.target;
           aimed = work.aimed;
-          answered = alike_answered sight (put_steps held request work.target old (new.metas request.path.key)) (put_steps held request work.target other (after.metas request.path.key)) (λ meta reply. reply ≡ put_reply found meta) records answer
-              (alike_steps held work.target (new.metas request.path.key) (after.metas request.path.key) (like.metas request.path.key)) seen work.answered;
+          answered = alike_answered sight (put_steps profile held request work.target old (new.metas request.path.key)) (put_steps profile held request work.target other (after.metas request.path.key)) (λ meta reply. reply ≡ put_reply found meta) records answer
+              (alike_steps profile held work.target (new.metas request.path.key) (after.metas request.path.key) (like.metas request.path.key)) seen work.answered;
           leaves = leaves;
-        }) (follows_leaves held work.target (new.metas request.path.key) led.0 records led.1 work.leaves)
+        }) (follows_leaves profile held work.target (new.metas request.path.key) led.0 records led.1 work.leaves)
 
-    pub follows_put_cut : (records : List Logged) → AreSeen sight records → PutCut held partial request found old records new → Follows sight new (λ after. PutCut held partial request found other records after)
+    pub follows_put_cut : (records : List Logged) → AreSeen sight records → PutCut profile held partial request found old records new → Follows sight new (λ after. PutCut profile held partial request found other records after)
     follows_put_cut records seen cut =
         followed_alike (λ after like leaves.
-        let alike_to = alike_steps held cut.target (new.metas request.path.key) (after.metas request.path.key) (like.metas request.path.key) in
-        let rest = alike_leads sight (put_steps held request cut.target old (new.metas request.path.key)) (put_steps held request cut.target other (after.metas request.path.key)) records cut.left alike_to seen cut.calls in
+        let alike_to = alike_steps profile held cut.target (new.metas request.path.key) (after.metas request.path.key) (like.metas request.path.key) in
+        let rest = alike_leads sight (put_steps profile held request cut.target old (new.metas request.path.key)) (put_steps profile held request cut.target other (after.metas request.path.key)) records cut.left alike_to seen cut.calls in
         record { target = cut.target; aimed = cut.aimed; left = rest.0; calls = rest.1; goes_on = alike_goes_on sight cut.left rest.0 rest.2 cut.goes_on; leaves = leaves })
-        (follows_leaves held cut.target (new.metas request.path.key) cut.left records cut.calls cut.leaves)
+        (follows_leaves profile held cut.target (new.metas request.path.key) cut.left records cut.calls cut.leaves)
 
   -- ---- the empty file of a LOCK
 
   follows_has_file : HasFile request.path.key old new → Follows sight new (HasFile request.path.key other)
   follows_has_file file = by (get old.tree request.path.key) refl
     where
+      typed : LookTyped sight (option_map (made_types request.path.key (get old.tree request.path.key)) old.types) (option_map (made_types request.path.key (get other.tree request.path.key)) other.types)
+      typed = typed_made request.path.key (get old.tree request.path.key) (get other.tree request.path.key) (alike.like request.path.key).kinds
+
       by : (o : Option Node) → get old.tree request.path.key ≡ o → Follows sight new (HasFile request.path.key other)
       by None none =
-          followed (λ after made. record { made = λ _. made; kept = λ some. absurd (some (same_none (get old.tree request.path.key) (get other.tree request.path.key) (alike.like request.path.key).kinds none)) })
-          (follows_file sight old new other alike request.path.key [] [] (λ _. refl) (λ _. refl) (file.made none))
+          followed (λ after made. record { made = λ _. made.0; typed = made.1; kept = λ some. absurd (some (same_none (get old.tree request.path.key) (get other.tree request.path.key) (alike.like request.path.key).kinds none)) })
+          (follows_file sight old new other alike request.path.key [] [] (option_map (made_types request.path.key (get old.tree request.path.key))) (option_map (made_types request.path.key (get other.tree request.path.key)))
+          (λ _. refl) (λ _. refl) (file.made none) file.typed typed)
       by (Some node) some =
           let kept = file.kept (λ none. let no : None ≡ Some node = sym none ∙ some in cc) in
           followed (λ after put. record {
             made = λ none. absurd (let no : None ≡ Some node = sym (same_none (get other.tree request.path.key) (get old.tree request.path.key) (sym (alike.like request.path.key).kinds) none) ∙ some in cc);
             kept = λ _. (put.tree ∙ put_at-same other.tree request.path.key (get other.tree request.path.key) refl, put.properties ∙ put_at-same other.properties request.path.key (get other.properties request.path.key) refl, put.limit);
+            typed = put.types;
           })
-          (follows_put sight old new other alike request.path.key (standing old request.path.key) (standing other request.path.key) (record {
+          (follows_put sight old new other alike request.path.key (standing old request.path.key) (standing other request.path.key)
+          (option_map (made_types request.path.key (get old.tree request.path.key))) (option_map (made_types request.path.key (get other.tree request.path.key))) (record {
             tree = kept.0 ∙ sym (put_at-same old.tree request.path.key (get old.tree request.path.key) refl);
             properties = kept.1 ∙ sym (put_at-same old.properties request.path.key (get old.properties request.path.key) refl);
+            types = file.typed;
             limit = kept.2;
-          }) (alike.like request.path.key))
+          }) typed (alike.like request.path.key))
 
   follows_file_leaves : (records : List Logged) → FileLeaves request records old new → Follows sight new (λ after. FileLeaves request records other after)
   follows_file_leaves records (inl made) = followed (λ after file. inl (made.0, file)) (follows_has_file made.1)

@@ -95,8 +95,8 @@ module _ (sight : Sight) (settings : Settings) (lets : (key : Key) → settings.
     write_step : (partial : Bool) → StepBy (write_method partial) settings request old records answer new → FollowsTo sight new (λ after. StepBy (write_method partial) settings request (with old other) records answer after)
     write_step partial =
         step_by (write_method partial) (alike_put sight request old other like settings.facts.bodies partial)
-        (λ found rest seen work. followed (λ after leads. (leads, work.1)) (follows_put_work sight request old.contents new.contents other alike settings.facts.bodies partial found rest answer seen work.0))
-        (λ found rest seen work. followed (λ after leads. (leads, work.1)) (follows_put_cut sight request old.contents new.contents other alike settings.facts.bodies partial found rest seen work.0))
+        (λ found rest seen work. followed (λ after leads. (leads, work.1)) (follows_put_work sight request old.contents new.contents other alike settings.profile settings.facts.bodies partial found rest answer seen work.0))
+        (λ found rest seen work. followed (λ after leads. (leads, work.1)) (follows_put_cut sight request old.contents new.contents other alike settings.profile settings.facts.bodies partial found rest seen work.0))
 
     unserved : IsUnserved old records answer new → FollowsTo sight new (λ after. IsUnserved (with old other) records answer after)
     unserved none = followed (λ after same. record { none = none.none; answered = none.answered; same = same }) (follows_stay sight old new other alike none.same)

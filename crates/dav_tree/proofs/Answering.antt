@@ -498,7 +498,7 @@ copies from to old new none is =
       types = ap some_types is
           ∙ ap (λ o. Some (types_of (put_at old.resources to (option_map (copy_of (get old.resources to) (old.version + 1) old.moment) o)))) here
           ∙ ap Some (types-put old.resources to copy
-              ∙ ap (put_at (types_of old.resources) to) (sym (get-types old.resources from ∙ ap (option_and_then (λ (s : Stored). s.media_type)) here)));
+          ∙ ap (put_at (types_of old.resources) to) (sym (get-types old.resources from ∙ ap (option_and_then (λ (s : Stored). s.media_type)) here)));
       limit = no_limit_change old new (ap (λ (m : memory.Memory). m.limit) is);
     }
 
