@@ -29,7 +29,7 @@ pub returns-in_err-version-clause-opened : goal.returns-in_err-version-clause-op
 returns-in_err-version-clause-opened g c =
     let m = memory_of c.args.self.now in
     let above = directory-above c.args.self.now.entries c.args.self.now.entries refl c.args.path.now.key _ c.key.ensures.value _ c.in-Some.ensures in
-    over-exit _ _ _ _ _ _ _ c.from_residual.ensures.1 (open_missing c.args.options.now c.args.path.now.key m c.requires.missing above ∙ ap (λ t. member_error (if t then None else Some NotFound) m) (sym c.may_make.ensures ∙ c.if-not-may_make.false) ∙ c.in_err-version.ensures) refl
+    over-exit _ _ _ _ _ _ _ c.from_residual-in_err-version.ensures.1 (open_missing c.args.options.now c.args.path.now.key m c.requires.missing above ∙ ap (λ t. member_error (if t then None else Some NotFound) m) (sym c.may_make.ensures ∙ c.if-not-may_make.false) ∙ c.in_err-version.ensures) refl
 
 pub invariant_of-self-2 : goal.invariant_of-self-2
 invariant_of-self-2 g c =

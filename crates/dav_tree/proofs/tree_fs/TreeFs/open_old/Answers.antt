@@ -17,7 +17,7 @@ returns-then-place-clause-opened g c =
 
 pub returns-in_err-version-clause-opened : goal.returns-in_err-version-clause-opened
 returns-in_err-version-clause-opened g c =
-    over-exit _ _ _ _ _ _ _ c.from_residual.ensures.1 (open_there c.args.options.now c.args.path.now.key (memory_of c.args.self.now) c.requires.stored c.requires.at.there c.if-options.false (sym c.requires.kind ∙ c.if-place.false) ∙ ap (λ t. if t then change_error None (memory_of c.args.self.now) else None) c.if-options-2.true ∙ c.in_err-version.ensures) refl
+    over-exit _ _ _ _ _ _ _ c.from_residual-in_err-version.ensures.1 (open_there c.args.options.now c.args.path.now.key (memory_of c.args.self.now) c.requires.stored c.requires.at.there c.if-options.false (sym c.requires.kind ∙ c.if-place.false) ∙ ap (λ t. if t then change_error None (memory_of c.args.self.now) else None) c.if-options-2.true ∙ c.in_err-version.ensures) refl
 
 pub truncate-requires : goal.truncate-requires
 truncate-requires g c = (c.args.path.now.key, c.requires.stored, c.requires.at, sym c.requires.kind ∙ c.if-place.false)
