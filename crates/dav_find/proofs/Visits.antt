@@ -1,9 +1,9 @@
 -- Resources that are reported one after the other: one, and then those that are left.
-use Rattle.std.proofs.Common.{◌≡◌, ◌∙◌, OnErr, true, false, List, [], ◌∷◌, ◌++◌, Option, None, Some, Result, Ok, Err, map, inl, inr, refl, sym, ap, subst, append-nil, append_assoc}
+use Rattle.std.proofs.Common.{◌≡◌, ◌∙◌, ◌+◌, ◌≤◌, if◌then◌else◌, OnErr, ℕ, Bool, true, false, List, [], ◌∷◌, ◌++◌, length, suc, Option, None, Some, Result, Ok, Err, map, inl, inr, refl, sym, ap, subst, append-nil, append_assoc, length-append, arith}
 use Rattle.std.specs.Prelude.{◌&&◌}
 use Rattle.std.specs.Option.{option_map}
 use Rattle.std.specs.Result.{IsErrAnd}
-use Rattle.std.proofs.lemmas.List.{map-append}
+use Rattle.std.proofs.lemmas.List.{map-append, length-reverse}
 use Rattle.std.proofs.lemmas.Result.{err_from_is_err_and}
 use Rattle.dav_key.specs.Key.{Key}
 use Rattle.dav_resource.specs.Tree.{Tree, Nodes, no_nodes, text_then, element_then, append_nodes, elements}
@@ -12,7 +12,7 @@ use Rattle.dav_resource.specs.declared.error.DavError.{DavError}
 use Rattle.dav_resource.specs.declared.error.DavError.TheVariants.{Memory}
 use Rattle.dav_resource.specs.declared.request.Depth.{Depth}
 use Rattle.dav_store.specs.Logged.{Logged}
-use Rattle.dav_store.specs.Store.{Store, Facts}
+use Rattle.dav_store.specs.Store.{Store, Contents, Facts}
 use Rattle.dav_messages.specs.Dialogue.{Dialogue, Refuses, EndsIn}
 use Rattle.dav_messages.specs.DavElement.{with_elements}
 use Rattle.dav_props.specs.Propstat.{PropertyStatus, grouped, property_response}
@@ -22,7 +22,7 @@ use Rattle.dav_walks.specs.declared.listing.Resource.{Resource}
 use Rattle.dav_find.specs.Asked.{AskedProperty}
 use Rattle.dav_find.specs.Finding.{View, QuotaAnswer}
 use Rattle.dav_find.specs.Response.{Responds, ComesTo, IsResponse}
-use Rattle.dav_find.specs.Visiting.{Visit, response_of, reporting, reported, finding, Shows, FindsMembers, VisitsAll, over, more, stops, begins, breaks, is_shown, is_listed, member_depth}
+use Rattle.dav_find.specs.Visiting.{Visit, response_of, reporting, reported, finding, Shows, FindsMembers, Visits, VisitsAll, over, more, stops, begins, breaks, full, further, at_once, below, is_shown, is_listed, member_depth, shown_count, IsWithin, IsBeyond, room_after, End, Whole, TooMany, Lacking, WalksAll, WalksFrom}
 use Rattle.dav_find.specs.Writing.{IsShown, IsVisited, IsVisitedInPart, Writes, WritesAll, WritesFrom, written}
 
 -- what holds at any rate holds of an error
@@ -62,6 +62,30 @@ written_more profile tree visits others =
 ends_none : {A : Type 0} (dialogue : Dialogue A) (records : List Logged) (e : DavError) → EndsIn dialogue records (Err e) → ComesTo dialogue records None
 ends_none dialogue records e (inl refuses) = (Refuses (Err e), refuses)
 ends_none dialogue records e (inr lacked) = lacked.1
+
+-- ---- how many are reported
+
+pub room_none : (room : Option ℕ) → IsWithin room 0
+room_none None = tt
+room_none (Some room) = omega arith
+
+-- there is room for one of several
+pub room_one : (room : Option ℕ) (others : ℕ) → IsWithin room (suc others) → IsWithin room 1
+room_one None others has = tt
+room_one (Some room) others has = omega arith
+
+pub pending_count : (count : ℕ) (items : List Resource) → count ≡ length items → count ≡ length (in_turn items)
+pending_count count items is = is ∙ sym (length-reverse items)
+
+room_more : (room : Option ℕ) (count shown others : ℕ) → IsWithin room count → shown ≤ count → IsWithin (room_after room count) others → IsWithin room (shown + others)
+room_more None count shown others has few fits = tt
+room_more (Some room) count shown others has few fits = omega arith
+
+module _ (view : View) (contents : Contents) (asked : List AskedProperty) where
+  shows_few : (shown : Bool) (here : Resource) (quota : Option QuotaAnswer) (records : List Logged) (visits : List Visit) (next : Option QuotaAnswer) → Shows view contents asked shown here quota records visits next
+      → length visits ≤ (if shown then 1 else 0)
+  shows_few true here quota records visits next shows = rw shows.2 (omega arith)
+  shows_few false here quota records visits next shows = rw shows.1 (omega arith)
 
 module _ (view : View) (asked : List AskedProperty) where
   pub shown_none : (depth : Depth) (here : Resource) (quota : Option QuotaAnswer) (store : Store) (writer : PropWriter) → is_shown depth ≡ false
@@ -208,77 +232,142 @@ module _ (view : View) (asked : List AskedProperty) where
 
   -- ---- those that wait
 
-  pub all_over : (depth : Depth) (quota : Option QuotaAnswer) (store : Store) (writer : PropWriter)
-      → WritesAll view asked depth [] quota writer.tree store (Ok writer) store
-  all_over depth quota store writer = record {
-    end = Some [];
-    read = record { records = []; recorded = sym (append-nil store.log); same = refl; fixed = refl; over = over refl refl refl };
+  after_more : List Visit → End → End
+  after_more visits (Whole others) = Whole (visits ++ others)
+  after_more visits TooMany = TooMany
+  after_more visits Lacking = Lacking
+
+  writes_more : (before : Tree) (after : PropWriter) (visits : List Visit) (answer : Result (Option PropWriter) DavError) (end : End) → after.tree ≡ written view.profile before visits → Writes view asked after.tree answer end
+      → Writes view asked before answer (after_more visits end)
+  unfolding after_more
+  writes_more before after visits (Ok (Some writer)) (Whole vs) is h = h ∙ ap (λ t. written view.profile t vs) is ∙ written_more view.profile before visits vs
+  writes_more before after visits (Ok (Some writer)) TooMany is h = h
+  writes_more before after visits (Ok (Some writer)) Lacking is h = h
+  writes_more before after visits (Ok None) (Whole vs) is h = h
+  writes_more before after visits (Ok None) TooMany is h = h
+  writes_more before after visits (Ok None) Lacking is h = h
+  writes_more before after visits (Err e) (Whole vs) is h = h
+  writes_more before after visits (Err e) TooMany is h = h
+  writes_more before after visits (Err e) Lacking is h = h
+
+  few_more : (contents : Contents) (depth : Depth) (here : Resource) (quota : Option QuotaAnswer) (records : List Logged) (visits : List Visit)
+      (next : Option QuotaAnswer) (members : List Resource) (room : Option ℕ) (count : ℕ) (others : List Visit)
+      → Visits view contents asked depth here quota records visits next members → shown_count depth ≤ count
+      → IsWithin room count → IsWithin (room_after room count) (length others) → IsWithin room (length (visits ++ others))
+  few_more contents depth here quota records visits next members room count others visited few has fits =
+      let shown = shows_few view contents asked (is_shown depth) here quota visited.first visits next visited.shows in
+      rw length-append (room_more room count (length visits) (length others) has (omega (arith, shown)) fits)
+
+  walks_more : (contents : Contents) (depth : Depth) (here : Resource) (rest members : List Resource) (quota next : Option QuotaAnswer) (first others : List Logged) (visits : List Visit) (room : Option ℕ) (end : End)
+      → IsWithin room (length (here ∷ rest)) → Visits view contents asked depth here quota first visits next members
+      → WalksAll view contents asked depth (room_after room 1) (members ++ rest) next others end
+      → WalksAll view contents asked depth room (here ∷ rest) quota (first ++ others) (after_more visits end)
+  unfolding after_more
+  walks_more contents depth here rest members quota next first others visits room (Whole vs) has visited (walk, fits) = (
+    more here rest first others visits next members (Some vs) refl refl visited walk refl,
+    few_more contents depth here quota first visits next members room 1 vs visited (one_most (is_shown depth)) (room_one room (length rest) has) fits,
+  )
+    where
+      one_most : (b : Bool) → (if b then 1 else 0) ≤ 1
+      one_most true = omega arith
+      one_most false = omega arith
+  walks_more contents depth here rest members quota next first others visits room TooMany has visited exceeds =
+      further here rest first others visits next members refl has refl visited exceeds
+  walks_more contents depth here rest members quota next first others visits room Lacking has visited walk = more here rest first others visits next members None refl refl visited walk refl
+
+  pub all_over : (depth : Depth) (room : Option ℕ) (quota : Option QuotaAnswer) (store : Store) (writer : PropWriter)
+      → WritesAll view asked depth room [] quota writer.tree store (Ok (Some writer)) store
+  all_over depth room quota store writer = record {
+    end = Whole [];
+    read = record { records = []; recorded = sym (append-nil store.log); same = refl; fixed = refl; over = (over refl refl refl, room_none room) };
     writes = sym (written_none view.profile writer.tree);
   }
 
-  writes_more : (before : Tree) (after : PropWriter) (visits : List Visit) (answer : Result PropWriter DavError) (end : Option (List Visit)) → after.tree ≡ written view.profile before visits → Writes view asked after.tree answer end
-      → Writes view asked before answer (option_map (λ vs. visits ++ vs) end)
-  writes_more before after visits (Ok writer) (Some vs) is h = h ∙ ap (λ t. written view.profile t vs) is ∙ written_more view.profile before visits vs
-  writes_more before after visits (Ok writer) None is h = h
-  writes_more before after visits (Err e) (Some vs) is h = h
-  writes_more before after visits (Err e) None is h = h
+  -- more are pending than may be reported
+  pub all_full : (depth : Depth) (room : Option ℕ) (waiting : List Resource) (quota : Option QuotaAnswer) (before : Tree) (store : Store) → IsBeyond room (length waiting)
+      → WritesAll view asked depth room waiting quota before store (Ok None) store
+  all_full depth room waiting quota before store lacks = record {
+    end = TooMany;
+    read = record { records = []; recorded = sym (append-nil store.log); same = refl; fixed = refl; over = full lacks refl };
+    writes = tt;
+  }
 
-  pub all_more : (depth : Depth) (here : Resource) (rest : List Resource) (quota next : Option QuotaAnswer) (before : Tree) (old mid new : Store)
-      (after : PropWriter) (wait : List Resource) (answer : Result PropWriter DavError)
-      → IsVisited view asked depth here quota rest before old after next wait mid
-      → WritesAll view asked depth (in_turn wait) next after.tree mid answer new
-      → WritesAll view asked depth (here ∷ in_turn rest) quota before old answer new
-  all_more depth here rest quota next before old mid new after wait answer h g = record {
-    end = option_map (λ vs. h.visits ++ vs) g.end;
+  pub all_more : (depth : Depth) (room : Option ℕ) (here : Resource) (rest : List Resource) (quota next : Option QuotaAnswer) (before : Tree) (old mid new : Store)
+      (after : PropWriter) (wait : List Resource) (answer : Result (Option PropWriter) DavError)
+      → IsWithin room (length (here ∷ in_turn rest)) → IsVisited view asked depth here quota rest before old after next wait mid
+      → WritesAll view asked depth (room_after room 1) (in_turn wait) next after.tree mid answer new
+      → WritesAll view asked depth room (here ∷ in_turn rest) quota before old answer new
+  all_more depth room here rest quota next before old mid new after wait answer has h g = record {
+    end = after_more h.visits g.end;
     read = record {
       records = h.read.records ++ g.read.records;
       recorded = rw (g.read.recorded, h.read.recorded, append_assoc);
       same = g.read.same ∙ h.read.same;
       fixed = g.read.fixed ∙ h.read.fixed;
-      over = more here (in_turn rest) h.read.records g.read.records h.visits next h.members g.end refl refl h.read.over
-          (subst (λ contents. VisitsAll view contents asked depth (h.members ++ in_turn rest) next g.read.records g.end) h.read.same
-          (subst (λ waiting. VisitsAll view mid.contents asked depth waiting next g.read.records g.end) h.added g.read.over)) refl;
+      over = walks_more old.contents depth here (in_turn rest) h.members quota next h.read.records g.read.records h.visits room g.end has h.read.over
+          (subst (λ contents. WalksAll view contents asked depth (room_after room 1) (h.members ++ in_turn rest) next g.read.records g.end) h.read.same
+          (subst (λ waiting. WalksAll view mid.contents asked depth (room_after room 1) waiting next g.read.records g.end) h.added g.read.over));
     };
     writes = writes_more before after h.visits answer g.end h.tree g.writes;
   }
 
-  pub all_stop : (depth : Depth) (here : Resource) (rest : List Resource) (quota : Option QuotaAnswer) (before : Tree) (old new : Store)
-      (answer : Result PropWriter DavError) → IsErrAnd answer (λ d. d ≡ Memory)
-      → IsVisitedInPart view asked depth here quota old new → WritesAll view asked depth (here ∷ in_turn rest) quota before old answer new
-  all_stop depth here rest quota before old new answer is h =
+  pub all_stop : (depth : Depth) (room : Option ℕ) (here : Resource) (rest : List Resource) (quota : Option QuotaAnswer) (before : Tree) (old new : Store)
+      (answer : Result (Option PropWriter) DavError) → IsErrAnd answer (λ d. d ≡ Memory)
+      → IsVisitedInPart view asked depth here quota old new → WritesAll view asked depth room (here ∷ in_turn rest) quota before old answer new
+  all_stop depth room here rest quota before old new answer is h =
       let p = err_from_is_err_and answer is in
       rw (p.1, p.2) (record {
-        end = None;
+        end = Lacking;
         read = record { records = h.records; recorded = h.recorded; same = h.same; fixed = h.fixed; over = stops here (in_turn rest) refl h.over refl };
         writes = refl;
       })
 
   -- ---- from the target
 
-  pub from_begins : (target : Resource) (depth : Depth) (next : Option QuotaAnswer) (before : Tree) (old mid new : Store) (after : PropWriter) (wait : List Resource) (answer : Result PropWriter DavError)
-      → IsVisited view asked depth target None [] before old after next wait mid
-      → WritesAll view asked (member_depth depth) (in_turn wait) next after.tree mid answer new
-      → WritesFrom view asked target depth before old answer new
-  from_begins target depth next before old mid new after wait answer h g = record {
-    end = option_map (λ vs. h.visits ++ vs) g.end;
+  walks_from : (contents : Contents) (most : Option ℕ) (target : Resource) (depth : Depth) (members : List Resource) (next : Option QuotaAnswer) (first others : List Logged) (visits : List Visit) (end : End)
+      → IsWithin most (shown_count depth) → Visits view contents asked depth target None first visits next members
+      → WalksAll view contents asked (member_depth depth) (room_after most (shown_count depth)) members next others end
+      → WalksFrom view contents asked most target depth (first ++ others) (after_more visits end)
+  unfolding after_more
+  walks_from contents most target depth members next first others visits (Whole vs) has visited (walk, fits) = (
+    begins first others visits next members (Some vs) refl visited walk refl,
+    few_more contents depth target None first visits next members most (shown_count depth) vs visited (omega arith) has fits,
+  )
+  walks_from contents most target depth members next first others visits TooMany has visited exceeds = below first others visits next members has refl visited exceeds
+  walks_from contents most target depth members next first others visits Lacking has visited walk = begins first others visits next members None refl visited walk refl
+
+  pub from_begins : (most : Option ℕ) (target : Resource) (depth : Depth) (next : Option QuotaAnswer) (before : Tree) (old mid new : Store) (after : PropWriter) (wait : List Resource) (answer : Result (Option PropWriter) DavError)
+      → IsWithin most (shown_count depth) → IsVisited view asked depth target None [] before old after next wait mid
+      → WritesAll view asked (member_depth depth) (room_after most (shown_count depth)) (in_turn wait) next after.tree mid answer new
+      → WritesFrom view asked most target depth before old answer new
+  from_begins most target depth next before old mid new after wait answer has h g = record {
+    end = after_more h.visits g.end;
     read = record {
       records = h.read.records ++ g.read.records;
       recorded = rw (g.read.recorded, h.read.recorded, append_assoc);
       same = g.read.same ∙ h.read.same;
       fixed = g.read.fixed ∙ h.read.fixed;
-      over = begins h.read.records g.read.records h.visits next h.members g.end refl h.read.over
-          (subst (λ contents. VisitsAll view contents asked (member_depth depth) h.members next g.read.records g.end) h.read.same
-          (subst (λ waiting. VisitsAll view mid.contents asked (member_depth depth) waiting next g.read.records g.end) (h.added ∙ append-nil h.members) g.read.over)) refl;
+      over = walks_from old.contents most target depth h.members next h.read.records g.read.records h.visits g.end has h.read.over
+          (subst (λ contents. WalksAll view contents asked (member_depth depth) (room_after most (shown_count depth)) h.members next g.read.records g.end) h.read.same
+          (subst (λ waiting. WalksAll view mid.contents asked (member_depth depth) (room_after most (shown_count depth)) waiting next g.read.records g.end) (h.added ∙ append-nil h.members) g.read.over));
     };
     writes = writes_more before after h.visits answer g.end h.tree g.writes;
   }
 
-  pub from_breaks : (target : Resource) (depth : Depth) (before : Tree) (old new : Store) (answer : Result PropWriter DavError) → IsErrAnd answer (λ d. d ≡ Memory)
-      → IsVisitedInPart view asked depth target None old new → WritesFrom view asked target depth before old answer new
-  from_breaks target depth before old new answer is h =
+  -- not even the target may be reported
+  pub from_full : (most : Option ℕ) (target : Resource) (depth : Depth) (before : Tree) (store : Store) → IsBeyond most (shown_count depth) → WritesFrom view asked most target depth before store (Ok None) store
+  from_full most target depth before store lacks = record {
+    end = TooMany;
+    read = record { records = []; recorded = sym (append-nil store.log); same = refl; fixed = refl; over = at_once lacks refl };
+    writes = tt;
+  }
+
+  pub from_breaks : (most : Option ℕ) (target : Resource) (depth : Depth) (before : Tree) (old new : Store) (answer : Result (Option PropWriter) DavError) → IsErrAnd answer (λ d. d ≡ Memory)
+      → IsVisitedInPart view asked depth target None old new → WritesFrom view asked most target depth before old answer new
+  from_breaks most target depth before old new answer is h =
       let p = err_from_is_err_and answer is in
       rw (p.1, p.2) (record {
-        end = None;
+        end = Lacking;
         read = record { records = h.records; recorded = h.recorded; same = h.same; fixed = h.fixed; over = breaks h.over refl };
         writes = refl;
       })

@@ -66,11 +66,11 @@ module _ {C L : Type 0} (seen : L → Locks) (finder : Finder C L) where
 
   -- ---- all resources
 
-  -- the walk over all pending resources is written (`WritesAll`)
-  abbrev pub WritesAllBy : Depth → List Resource → Option QuotaAnswer → Tree → Store → Result PropWriter DavError → Store → Type 0
-  WritesAllBy depth waiting quota before old answer new =
-      WritesAll (view_of seen finder old.facts) finder.search.now.asked.items depth waiting quota before old answer new
+  -- the walk over all pending resources is written, if it finds no more than may be reported (`WritesAll`)
+  abbrev pub WritesAllBy : Depth → Option ℕ → List Resource → Option QuotaAnswer → Tree → Store → Result (Option PropWriter) DavError → Store → Type 0
+  WritesAllBy depth room waiting quota before old answer new =
+      WritesAll (view_of seen finder old.facts) finder.search.now.asked.items depth room waiting quota before old answer new
 
-  -- the walk from the target, as far as the Depth reaches, is written (`WritesFrom`)
-  abbrev pub WritesFromBy : Resource → Depth → Tree → Store → Result PropWriter DavError → Store → Type 0
-  WritesFromBy target depth before old = WritesFrom (view_of seen finder old.facts) finder.search.now.asked.items target depth before old
+  -- the walk from the target, as far as the Depth reaches, is written, if it finds no more than may be reported (`WritesFrom`)
+  abbrev pub WritesFromBy : Option ℕ → Resource → Depth → Tree → Store → Result (Option PropWriter) DavError → Store → Type 0
+  WritesFromBy most target depth before old = WritesFrom (view_of seen finder old.facts) finder.search.now.asked.items most target depth before old

@@ -23,3 +23,5 @@ pub mod OrderedLaws
 pub mod NamedLaws
 pub mod Grouping
 pub mod SameNames
+pub mod Limited
+pub mod LimitedLaws

@@ -498,7 +498,7 @@ module _ (contents : Contents) (formed : IsWellFormed contents) where
 
 -- ---- after calls that list nothing
 
-far_none : (records : List Logged) (key : Key) → HasNoListing records → IsFar records key
+pub far_none : (records : List Logged) (key : Key) → HasNoListing records → IsFar records key
 far_none records key none = record {
   listings = λ x outcome i. let no : true ≡ false = none _ i in absurd cc;
   entries = λ name x outcome i. let no : true ≡ false = none _ i in absurd cc;

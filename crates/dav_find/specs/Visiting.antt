@@ -1,6 +1,6 @@
 -- Which resources a PROPFIND reports, in which order, and by which calls (RFC 4918, section 9.1): each directory before everything below it, its
 -- members in the order of its listing. Members are left out if the listing is not granted, and a member is left out if the listing does not show it.
-use Rattle.std.specs.Prelude.{◌≡◌, Bool, true, false, ◌&&◌, List, [], ◌∷◌, ◌++◌, Option, Some, None}
+use Rattle.std.specs.Prelude.{◌≡◌, ◌-◌, ◌<◌, ◌≤◌, ℕ, Bool, true, false, ◌&&◌, if◌then◌else◌, List, [], ◌∷◌, ◌++◌, length, Option, Some, None}
 use Rattle.std.specs.Option.{option_map}
 use Rattle.dav_resource.specs.PathText.{PathValue}
 use Rattle.dav_resource.specs.Tree.{Tree}
@@ -47,6 +47,32 @@ is_infinite _ = false
 abbrev pub member_depth : Depth → Depth
 member_depth Infinity = Infinity
 member_depth _ = Zero
+
+-- how many resources are reported when one is visited with this Depth
+abbrev pub shown_count : Depth → ℕ
+shown_count depth = if is_shown depth then 1 else 0
+
+-- ---- how many resources may be reported
+
+-- this many are within the limit, if there is one
+abbrev pub IsWithin : Option ℕ → ℕ → Type 0
+IsWithin None count = Unit {0}
+IsWithin (Some limit) count = count ≤ limit
+
+-- this many are more than the limit allows
+abbrev pub IsBeyond : Option ℕ → ℕ → Type 0
+IsBeyond None count = ⊥
+IsBeyond (Some limit) count = limit < count
+
+-- how many more may be reported, once this many are
+abbrev pub room_after : Option ℕ → ℕ → Option ℕ
+room_after limit count = option_map (λ n. n - count) limit
+
+-- how a walk ends: these resources are reported; or none is, since they would be more than may be reported; or memory ran out
+pub data End : Type 0 where
+  Whole : List Visit → End
+  TooMany : End
+  Lacking : End
 
 module _ (view : View) (contents : Contents) (asked : List AskedProperty) where
   -- ---- one resource
@@ -100,3 +126,33 @@ module _ (view : View) (contents : Contents) (asked : List AskedProperty) where
         → records ≡ first ++ others → Visits depth target None first visits next members
         → VisitsAll (member_depth depth) members next others later → end ≡ option_map (λ vs. visits ++ vs) later → VisitsFrom target depth records end
     breaks : VisitsInPart depth target None records → end ≡ None → VisitsFrom target depth records end
+
+  -- ---- a walk that finds more resources than may be reported
+
+  -- More are pending than may be reported (`IsBeyond`), so that the walk stops here. Or it goes on with the next one, and stops later.
+  pub data Exceeds (depth : Depth) : Option ℕ → List Resource → Option QuotaAnswer → List Logged → Type 0 where
+    full : {room : Option ℕ} {waiting : List Resource} {quota : Option QuotaAnswer} {records : List Logged} → IsBeyond room (length waiting)
+        → records ≡ [] → Exceeds depth room waiting quota records
+    further : {room : Option ℕ} {waiting : List Resource} {quota : Option QuotaAnswer} {records : List Logged}
+        (here : Resource) (rest : List Resource) (first others : List Logged) (visits : List Visit) (next : Option QuotaAnswer) (members : List Resource)
+        → waiting ≡ here ∷ rest → IsWithin room (length waiting) → records ≡ first ++ others → Visits depth here quota first visits next members
+        → Exceeds depth (room_after room 1) (members ++ rest) next others → Exceeds depth room waiting quota records
+
+  -- the same from the target: it may not be reported itself, or not with all that is below it
+  pub data ExceedsFrom (most : Option ℕ) (target : Resource) (depth : Depth) (records : List Logged) : Type 0 where
+    at_once : IsBeyond most (shown_count depth) → records ≡ [] → ExceedsFrom most target depth records
+    below : (first others : List Logged) (visits : List Visit) (next : Option QuotaAnswer) (members : List Resource)
+        → IsWithin most (shown_count depth) → records ≡ first ++ others → Visits depth target None first visits next members
+        → Exceeds (member_depth depth) (room_after most (shown_count depth)) members next others → ExceedsFrom most target depth records
+
+  -- ---- how a walk ends, where at most this many resources may be reported
+
+  abbrev pub WalksAll : Depth → Option ℕ → List Resource → Option QuotaAnswer → List Logged → End → Type 0
+  WalksAll depth room waiting quota records (Whole visits) = VisitsAll depth waiting quota records (Some visits) × IsWithin room (length visits)
+  WalksAll depth room waiting quota records TooMany = Exceeds depth room waiting quota records
+  WalksAll depth room waiting quota records Lacking = VisitsAll depth waiting quota records None
+
+  abbrev pub WalksFrom : Option ℕ → Resource → Depth → List Logged → End → Type 0
+  WalksFrom most target depth records (Whole visits) = VisitsFrom target depth records (Some visits) × IsWithin most (length visits)
+  WalksFrom most target depth records TooMany = ExceedsFrom most target depth records
+  WalksFrom most target depth records Lacking = VisitsFrom target depth records None

@@ -1,5 +1,5 @@
 -- What a writer has written after resources were reported: this project's own choice.
-use Rattle.std.specs.Prelude.{◌≡◌, ◌++◌, ◌<◌, List, map, Option, Some, None, Result, Ok, Err}
+use Rattle.std.specs.Prelude.{◌≡◌, ◌++◌, ◌<◌, ℕ, List, map, Option, Some, None, Result, Ok, Err}
 use Rattle.std.specs.FinMap.{keys}
 use Rattle.dav_resource.specs.Tree.{Tree}
 use Rattle.dav_resource.specs.declared.error.DavError.{DavError}
@@ -15,7 +15,7 @@ use Rattle.dav_walks.specs.Listing.{AreFewer, in_turn}
 use Rattle.dav_walks.specs.declared.listing.Resource.{Resource}
 use Rattle.dav_find.specs.Asked.{AskedProperty}
 use Rattle.dav_find.specs.Finding.{View, QuotaAnswer}
-use Rattle.dav_find.specs.Visiting.{Visit, response_of, Shows, Visits, VisitsInPart, VisitsAll, VisitsFrom, is_shown}
+use Rattle.dav_find.specs.Visiting.{Visit, response_of, Shows, Visits, VisitsInPart, End, Whole, TooMany, Lacking, WalksAll, WalksFrom, is_shown}
 
 -- the responses of these visits, after what was written before
 abbrev pub written : Profile → Tree → List Visit → Tree
@@ -48,23 +48,23 @@ module _ (view : View) (asked : List AskedProperty) where
   abbrev pub IsVisitedInPart : Depth → Resource → Option QuotaAnswer → Store → Store → Type 0
   IsVisitedInPart depth here quota old new = IsRead (λ records. VisitsInPart view old.contents asked depth here quota records) old new
 
-  -- the visits are written, or memory ran out
-  abbrev pub Writes : Tree → Result PropWriter DavError → Option (List Visit) → Type 0
-  Writes before (Ok writer) (Some visits) = writer.tree ≡ written view.profile before visits
-  Writes before (Ok writer) None = ⊥
-  Writes before (Err e) (Some visits) = ⊥
-  Writes before (Err e) None = e ≡ Memory
+  -- the visits are written; or nothing is returned, since they would be too many; or memory ran out
+  abbrev pub Writes : Tree → Result (Option PropWriter) DavError → End → Type 0
+  Writes before (Ok (Some writer)) (Whole visits) = writer.tree ≡ written view.profile before visits
+  Writes before (Ok None) TooMany = Unit {0}
+  Writes before (Err e) Lacking = e ≡ Memory
+  Writes before _ _ = ⊥
 
-  -- the walk over all pending resources is written, or memory ran out
-  pub record WritesAll (depth : Depth) (waiting : List Resource) (quota : Option QuotaAnswer) (before : Tree) (old : Store) (answer : Result PropWriter DavError) (new : Store) : Type 0 where
-    pub end : Option (List Visit)
-    pub read : IsRead (λ records. VisitsAll view old.contents asked depth waiting quota records end) old new
+  -- the walk over all pending resources is written, if it finds no more than may be reported (`room`), or memory ran out
+  pub record WritesAll (depth : Depth) (room : Option ℕ) (waiting : List Resource) (quota : Option QuotaAnswer) (before : Tree) (old : Store) (answer : Result (Option PropWriter) DavError) (new : Store) : Type 0 where
+    pub end : End
+    pub read : IsRead (λ records. WalksAll view old.contents asked depth room waiting quota records end) old new
     pub writes : Writes before answer end
 
-  -- the walk from the target, as far as the Depth reaches, is written, or memory ran out
-  pub record WritesFrom (target : Resource) (depth : Depth) (before : Tree) (old : Store) (answer : Result PropWriter DavError) (new : Store) : Type 0 where
-    pub end : Option (List Visit)
-    pub read : IsRead (λ records. VisitsFrom view old.contents asked target depth records end) old new
+  -- the walk from the target, as far as the Depth reaches, is written, if it finds no more than may be reported (`most`), or memory ran out
+  pub record WritesFrom (most : Option ℕ) (target : Resource) (depth : Depth) (before : Tree) (old : Store) (answer : Result (Option PropWriter) DavError) (new : Store) : Type 0 where
+    pub end : End
+    pub read : IsRead (λ records. WalksFrom view old.contents asked most target depth records end) old new
     pub writes : Writes before answer end
 
 -- if the resource exists, fewer keys are pending afterwards than before it was taken

@@ -1,8 +1,8 @@
 //! The walk of a PROPFIND over the resources that it reports.
-ghost use Rattle.std.specs.Prelude.{◌≡◌, ◌&&◌, Some, IfErr, OnOk, OnErr};
+ghost use Rattle.std.specs.Prelude.{◌≡◌, ◌&&◌, Some, IfErr, OnOk, OnErr, MatchBool};
 ghost use Rattle.dav_resource.specs.declared.error.DavError.TheVariants.{Memory};
 ghost use Rattle.dav_walks.specs.Listing.{AreThere, in_turn};
-ghost use Rattle.dav_find.specs.Visiting.{is_shown as is_shown_at, is_listed as is_listed_at, member_depth as member_depth_at};
+ghost use Rattle.dav_find.specs.Visiting.{is_shown as is_shown_at, is_listed as is_listed_at, member_depth as member_depth_at, shown_count as shown_count_at, IsWithin, IsBeyond, room_after as room_left};
 ghost use Rattle.dav_find.specs.ByFinder.{ShowsBy, VisitsBy, StopsBy, WritesAllBy, WritesFromBy};
 ghost use Rattle.dav_find.specs.Writing.{TakesAway};
 
@@ -24,6 +24,9 @@ impl<'r, C, L: DavLockSystem> Finder<'r, C, L> {
     /// directory's listing fails, its members are left out, with everything below them. So is a member that
     /// the store does not list.
     ///
+    /// At most `most` resources are reported, if that is given. Returns `None` if there are more. Then the walk
+    /// stopped as soon as more were found: a listing counts before its members are looked at.
+    ///
     /// The caller ensures that the target exists and has this metadata. The only error is `Memory`. Nothing
     /// changes except the store's log.
     pub fn propfind_directory<F: GuardedFileSystem<C>>(
@@ -31,36 +34,47 @@ impl<'r, C, L: DavLockSystem> Finder<'r, C, L> {
         fs: &mut F,
         target: &Resource,
         depth: Depth,
+        most: Option<usize>,
         writer: PropWriter,
-    ) -> DavResult<PropWriter>
+    ) -> DavResult<Option<PropWriter>>
         requires there { (F.seen fs.old).contents.metas target.now.path.key ≡ Some target.now.meta }
-        ensures { WritesFromBy L.seen self.now target.now depth writer.tree (F.seen fs.old) result (F.seen fs.new) }
+        ensures { WritesFromBy L.seen self.now most target.now depth writer.tree (F.seen fs.old) result (F.seen fs.new) }
     {
+        let count = shown_count(depth);
+        if !is_within(most, count) {
+            return Ok(None);
+        }
         let mut waiting = Vec::new(self.alloc);
         let (writer, quota) = self.visit(fs, target, depth, None, writer, &mut waiting)?;
-        self.visit_all(fs, waiting, member_depth(depth), quota, writer)
+        let room = room_after(most, count);
+        self.visit_all(fs, waiting, member_depth(depth), room, quota, writer)
     }
 
     /// Visits all pending resources in turn, each with this Depth. The members that a visit adds come before the
-    /// next pending resource.
+    /// next pending resource. Returns `None` as soon as more are pending than may be reported (`room`).
     fn visit_all<F: GuardedFileSystem<C>>(
         &self,
         fs: &mut F,
         mut waiting: Vec<Resource>,
         depth: Depth,
+        mut room: Option<usize>,
         mut quota: Option<QuotaAnswer>,
         mut writer: PropWriter,
-    ) -> DavResult<PropWriter>
+    ) -> DavResult<Option<PropWriter>>
         requires there { AreThere (F.seen fs.old).contents waiting.items }
-        ensures { WritesAllBy L.seen self.now depth (in_turn waiting.items) quota writer.tree (F.seen fs.old) result (F.seen fs.new) }
+        ensures { WritesAllBy L.seen self.now depth room (in_turn waiting.items) quota writer.tree (F.seen fs.old) result (F.seen fs.new) }
     {
         'walk: loop {
+            if !is_within(room, waiting.len()) {
+                return Ok(None);
+            }
             let Some(here) = take_next(&mut waiting) else {
-                return Ok(writer);
+                return Ok(Some(writer));
             };
             let (more, next) = self.visit(fs, &here, depth, quota, writer, &mut waiting)?;
             writer = more;
             quota = next;
+            room = room_after(room, 1);
         }
     }
 
@@ -141,5 +155,33 @@ fn member_depth(depth: Depth) -> Depth
         Depth::Infinity
     } else {
         Depth::Zero
+    }
+}
+
+/// Returns how many resources are reported when one is visited with this Depth: one, or none.
+fn shown_count(depth: Depth) -> usize
+    ensures { result ≡ shown_count_at depth }
+{
+    if is_shown(depth) { 1 } else { 0 }
+}
+
+/// Returns whether this many more resources may be reported. Without a number in `room`, any number may be.
+fn is_within(room: Option<usize>, count: usize) -> bool
+    ensures { MatchBool result (IsWithin room count) (IsBeyond room count) }
+{
+    match room {
+        Some(room) => count <= room,
+        None => true,
+    }
+}
+
+/// Returns how many more resources may be reported once this many are.
+fn room_after(room: Option<usize>, count: usize) -> Option<usize>
+    requires { IsWithin room count }
+    ensures { result ≡ room_left room count }
+{
+    match room {
+        Some(room) => Some(room - count),
+        None => None,
     }
 }

@@ -1,4 +1,4 @@
-use Rattle.std.proofs.Common.{◌≡◌, Result}
+use Rattle.std.proofs.Common.{◌≡◌, Option, Result}
 use Rattle.dav_resource.specs.declared.error.DavError.{DavError}
 use Rattle.dav_store.specs.Store.{Store}
 use Rattle.dav_props.specs.declared.writer.PropWriter.{PropWriter}
@@ -13,9 +13,9 @@ invariant-walk g l = record {
   same : (g.F.GuardedFileSystem.seen l.fs).contents ≡ (g.F.GuardedFileSystem.seen l.initial.fs).contents;
   fixed : (g.F.GuardedFileSystem.seen l.fs).facts ≡ (g.F.GuardedFileSystem.seen l.initial.fs).facts;
   there : AreThere (g.F.GuardedFileSystem.seen l.initial.fs).contents l.waiting.items;
-  held : (answer : Result PropWriter DavError) (new : Store)
-      → WritesAll (view_of g.L.DavLockSystem.seen l.self (g.F.GuardedFileSystem.seen l.initial.fs).facts) l.self.search.now.asked.items l.depth (in_turn l.waiting.items) l.quota l.writer.tree (g.F.GuardedFileSystem.seen l.fs) answer new
-      → WritesAll (view_of g.L.DavLockSystem.seen l.self (g.F.GuardedFileSystem.seen l.initial.fs).facts) l.self.search.now.asked.items l.depth (in_turn l.initial.waiting.items) l.initial.quota l.initial.writer.tree (g.F.GuardedFileSystem.seen l.initial.fs) answer new;
+  held : (answer : Result (Option PropWriter) DavError) (new : Store)
+      → WritesAll (view_of g.L.DavLockSystem.seen l.self (g.F.GuardedFileSystem.seen l.initial.fs).facts) l.self.search.now.asked.items l.depth l.room (in_turn l.waiting.items) l.quota l.writer.tree (g.F.GuardedFileSystem.seen l.fs) answer new
+      → WritesAll (view_of g.L.DavLockSystem.seen l.self (g.F.GuardedFileSystem.seen l.initial.fs).facts) l.self.search.now.asked.items l.depth l.initial.room (in_turn l.initial.waiting.items) l.initial.quota l.initial.writer.tree (g.F.GuardedFileSystem.seen l.initial.fs) answer new;
 }
 
 -- each that is taken has fewer keys below its members than at and below itself
