@@ -39,6 +39,7 @@ use Rattle.dav_engine.specs.State.{State, IsLawfulState, LocksStay}
 use Rattle.dav_engine.specs.Transferring.{transferred_items}
 use Rattle.dav_engine.specs.Unlocking.{Unlocks, UnlocksNothing}
 use Rattle.dav_engine.specs.declared.target.Target.{Target}
+use Rattle.dav_engine.proofs.Propfinding.{propfind_replies}
 use Rattle.dav_engine.proofs.Looking.{AreLookups, looks_led, shallow_looks, put_looks, delete_looks, transfer_looks, lock_looks, unlock_looks, proppatch_looks, options_looks, propfind_looks}
 use Rattle.dav_engine.proofs.Putting.{never}
 use Rattle.dav_engine.proofs.WriteLaws.{met, no_file}
@@ -459,4 +460,4 @@ pub causes_propfind : Causes (Some PropFind) propfind_method
 causes_propfind settings request old new records answer lawful (Refused h) e is = caused_same (looks_led _ _ records (propfind_looks request old settings.profile settings.facts.bodies) h.head) h.same
 causes_propfind settings request old new records answer lawful (CutShort h) e is = caused_memory h.answered is
 causes_propfind settings request old new records answer lawful (CutInWork h) e is = caused_memory h.answered is
-causes_propfind settings request old new records answer lawful (Done h) e is = no_error _ h.work.answered is
+causes_propfind settings request old new records answer lawful (Done h) e is = let p = propfind_replies settings.profile request h.found h.work.end answer h.work.answered in no_error p.0 p.1 is

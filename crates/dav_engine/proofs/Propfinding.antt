@@ -10,12 +10,13 @@ use Rattle.dav_store.specs.Logged.{Logged}
 use Rattle.dav_store.specs.Store.{Store, Bodies}
 use Rattle.dav_messages.specs.Dialogue.{Refuses, Judges, Reaches}
 use Rattle.dav_messages.specs.Dialogues.{judges_exit, judges_then, judges_pure, judges_memory}
-use Rattle.dav_messages.specs.Reply.{Answer}
+use Rattle.dav_messages.specs.Reply.{Reply, Answer}
 use Rattle.dav_find.specs.Asked.{Asking, asking_of}
+use Rattle.dav_find.specs.Visiting.{End, Whole, TooMany, Lacking}
 use Rattle.dav_engine.specs.Laws.{ChangesNothing}
 use Rattle.dav_engine.specs.Method.{StepBy, Refused, Done, CutShort, CutInWork}
 use Rattle.dav_engine.specs.Methods.{propfind_method}
-use Rattle.dav_engine.specs.Propfind.{is_too_deep, finite_depth_reply, propfind_rules}
+use Rattle.dav_engine.specs.Propfind.{is_too_deep, finite_depth_reply, propfind_reply, limit_reply, propfind_rules, IsReplyTo}
 use Rattle.dav_engine.specs.Rules.{must_find}
 use Rattle.dav_engine.specs.Settings.{Settings}
 use Rattle.dav_engine.specs.State.{State}
@@ -59,3 +60,10 @@ propfind_unchanged settings request old records answer new (Refused h) = same_st
 propfind_unchanged settings request old records answer new (Done h) = same_state old new h.work.same
 propfind_unchanged settings request old records answer new (CutShort h) = same_state old new h.same
 propfind_unchanged settings request old records answer new (CutInWork h) = same_state old new h.work.same
+
+-- ---- it is answered by a response
+
+pub propfind_replies : (profile : Profile) (request : DavRequest) (found : Meta × Asking) (end : End) (answer : Answer) → IsReplyTo profile request found end answer → (reply : Reply) × (answer ≡ Ok reply)
+propfind_replies profile request found (Whole visits) answer is = (propfind_reply profile request found visits, is)
+propfind_replies profile request found TooMany answer is = (limit_reply profile, is)
+propfind_replies profile request found Lacking answer is = absurd is

@@ -74,7 +74,7 @@ module _ (settings : Settings) where
 -- an engine keeps its settings
 pub same_settings : {C F L : Type 0} (see_store : F → Store) (see_locks : L → Locks) (old new : DavInner C F L) → fixed_parts new ≡ fixed_parts old → facts_of (seen_by see_store see_locks new) ≡ facts_of (seen_by see_store see_locks old)
     → settings_by see_store new ≡ settings_by see_store old
-same_settings see_store see_locks old new same fixed = λ i. record { prefix = (same i).1.0; allow = (same i).1.1; profile = (same i).1.3; facts = (fixed i).0 }
+same_settings see_store see_locks old new same fixed = λ i. record { prefix = (same i).1.0; allow = (same i).1.1; profile = (same i).1.3; property_limit = (same i).1.4; facts = (fixed i).0 }
 
 pub served_under : (method : Option DavMethod) (now settings : Settings) (old : Seen) (request : DavRequest) (answer : Answer) (new : Seen) → now ≡ settings → Serves method now old request answer new → Serves method settings old request answer new
 served_under method now settings old request answer new same serves = subst (λ s. Serves method s old request answer new) same serves

@@ -26,12 +26,13 @@ module _ {C F L : Type 0} where
   abbrev pub loans : DavInner C F L → GName × Option GName
   loans engine = (engine.fs.ghost_name, option_map (λ ls. ls.ghost_name) engine.ls)
 
-  -- the prefix of its paths, the enabled methods, the credentials of the caller for the store, and the profile
-  abbrev pub made_with : DavInner C F L → List ℕ × Option DavMethodSet × C × Profile
-  made_with engine = (string_bytes engine.prefix, engine.allow, engine.credentials, engine.profile)
+  -- the prefix of its paths, the enabled methods, the credentials of the caller for the store, the profile, and how many values of properties one
+  -- PROPFIND may report
+  abbrev pub made_with : DavInner C F L → List ℕ × Option DavMethodSet × C × Profile × Option ℕ
+  made_with engine = (string_bytes engine.prefix, engine.allow, engine.credentials, engine.profile, engine.property_limit)
 
   -- what no call changes of the engine itself: which borrows it has, and what it was created with
-  abbrev pub fixed_parts : DavInner C F L → (GName × Option GName) × (List ℕ × Option DavMethodSet × C × Profile)
+  abbrev pub fixed_parts : DavInner C F L → (GName × Option GName) × (List ℕ × Option DavMethodSet × C × Profile × Option ℕ)
   fixed_parts engine = (loans engine, made_with engine)
 
   -- the store and the lock system, as contracts see them
@@ -45,7 +46,13 @@ module _ {C F L : Type 0} where
   -- the settings, which no request changes
   abbrev pub settings_by : (F → Store) → DavInner C F L → Settings
   settings_by see_store engine =
-      record { prefix = string_bytes engine.prefix; allow = engine.allow; profile = engine.profile; facts = (see_store (lent engine)).facts }
+      record {
+        prefix = string_bytes engine.prefix;
+        allow = engine.allow;
+        profile = engine.profile;
+        property_limit = engine.property_limit;
+        facts = (see_store (lent engine)).facts;
+      }
 
   -- the bodies that the store holds
   abbrev pub bodies_by : (F → Store) → DavInner C F L → Bodies

@@ -1,6 +1,6 @@
 -- What a request may change, and what its result says, in a user's terms. Each law follows from the method's definition (RFC 4918, sections 9.1, 9.2,
 -- 9.6 to 9.10 and 13).
-use Rattle.std.specs.Prelude.{◌≡◌, ◌≢◌, ◌⊎◌, ◌||◌, ℕ, nat_eq, Bool, true, false, if◌then◌else◌, List, [], ◌∷◌, ◌++◌, map, filter, Option, Some, None, option_map, Ok, Err}
+use Rattle.std.specs.Prelude.{◌≡◌, ◌≢◌, ◌⊎◌, ◌||◌, ◌*◌, ℕ, length, nat_eq, Bool, true, false, if◌then◌else◌, List, [], ◌∷◌, ◌++◌, map, filter, Option, Some, None, option_map, Ok, Err}
 use Rattle.std.specs.FinMap.{get}
 use Rattle.std.specs.List.{list_all, flat_map}
 use Rattle.std.specs.Option.{ForSome}
@@ -32,17 +32,18 @@ use Rattle.dav_props.specs.Propstat.{PropertyStatus, grouped}
 use Rattle.dav_props.specs.Update.{Change, update_verdict, is_refused, some_refused, live_first, patches_of}
 use Rattle.dav_find.specs.Asked.{Asking, asking_of}
 use Rattle.dav_find.specs.AskedOnce.{AsksEachOnce}
+use Rattle.dav_find.specs.Limited.{AreFound, AsksOnly}
 use Rattle.dav_find.specs.Ordered.{IsDepthFirst}
 use Rattle.dav_find.specs.Range.{ReportsRange}
 use Rattle.dav_find.specs.RangeSteps.{reported_keys}
 use Rattle.dav_find.specs.Reported.{AreReported, AreNamedAsAsked}
-use Rattle.dav_find.specs.Visiting.{Visit}
+use Rattle.dav_find.specs.Visiting.{Visit, IsWithin, IsBeyond}
 use Rattle.dav_walks.specs.Copying.{snapshot, copied}
 use Rattle.dav_walks.specs.KeyCall.{standing}
 use Rattle.dav_engine.specs.Bounds.{untimed}
 use Rattle.dav_engine.specs.LockInfo.{lock_info_of}
 use Rattle.dav_engine.specs.Locking.{is_refresh, lock_asked, AddsToLocks}
-use Rattle.dav_engine.specs.Propfind.{depth_or_default, propfind_reply, view_in}
+use Rattle.dav_engine.specs.Propfind.{depth_or_default, propfind_reply, limit_reply, view_in, value_count}
 use Rattle.dav_engine.specs.Put.{new_bytes, final_bytes, as_looked}
 use Rattle.dav_engine.specs.Target.{target_of}
 use Rattle.dav_engine.specs.declared.target.Target.{Target}
@@ -361,7 +362,7 @@ pub record ProppatchLaw (settings : Settings) (request : DavRequest) (old : Stat
 -- The response reports some list of resources. Their keys are those that the Depth reaches, except members hidden by a listing that was not granted
 -- or did not show them (`ReportsRange`), in the order of the listings, depth first (`IsDepthFirst`). Each is reported under its own path and with the
 -- requested properties (`AreReported`), which are those of the body and those that the server adds, each once (`AsksEachOnce`). With `prop` these
--- are all that is reported (`AreNamedAsAsked`).
+-- are all that is reported (`AreNamedAsAsked`). All of them together are within the limit (`few`).
 pub record ShowsRange (settings : Settings) (request : DavRequest) (old : State) (records : List Logged) (reply : Reply) : Type 0 where
   pub found : Meta × Asking
   pub visits : List Visit
@@ -373,14 +374,35 @@ pub record ShowsRange (settings : Settings) (request : DavRequest) (old : State)
   pub named : AreNamedAsAsked found.1.kind found.1.asked visits
   pub wanted : asking_of settings.facts.bodies request.body (user_agent_of request.headers) ≡ Ok found.1
   pub asked : AsksEachOnce settings.facts.bodies request.body (user_agent_of request.headers) found.1
+  pub few : IsWithin settings.property_limit (length visits * value_count found.1)
 
 -- `ShowsRange` holds of each 207 response
 abbrev pub ReportsItsRange : Settings → DavRequest → State → List Logged → Answer → Type 0
 ReportsItsRange settings request old records answer =
     (reply : Reply) → answer ≡ Ok reply → reply.status ≡ 207 → ShowsRange settings request old records reply
 
--- nothing changes, and the response reports the resources that the Depth reaches, each with the requested properties
+-- The response only says that too much would be reported, and it would: the walk found resources (`keys`) that the Depth reaches and no listing hid,
+-- which have more values of the requested properties together than the limit allows. The store was asked for properties of so few resources (`looked`)
+-- that theirs are within the limit.
+pub record FindsTooMany (settings : Settings) (request : DavRequest) (old : State) (records : List Logged) (reply : Reply) : Type 0 where
+  pub shown : reply ≡ limit_reply settings.profile
+  pub asking : Asking
+  pub wanted : asking_of settings.facts.bodies request.body (user_agent_of request.headers) ≡ Ok asking
+  pub keys : List Key
+  pub found : AreFound old.contents (depth_or_default request) request.path.key records keys
+  pub many : IsBeyond settings.property_limit (length keys * value_count asking)
+  pub looked : List Key
+  pub asks : AsksOnly looked records
+  pub few : IsWithin settings.property_limit (length looked * value_count asking)
+
+-- `FindsTooMany` holds of each 507 response
+abbrev pub ReportsNoneIfTooMany : Settings → DavRequest → State → List Logged → Answer → Type 0
+ReportsNoneIfTooMany settings request old records answer =
+    (reply : Reply) → answer ≡ Ok reply → reply.status ≡ 507 → FindsTooMany settings request old records reply
+
+-- nothing changes, and the response reports the resources that the Depth reaches, each with the requested properties, or that these would be too many
 pub record PropfindLaw (settings : Settings) (request : DavRequest) (old : State) (records : List Logged) (answer : Answer) (new : State)
     : Type 0 where
   pub unchanged : ChangesNothing old new
   pub range : ReportsItsRange settings request old records answer
+  pub limited : ReportsNoneIfTooMany settings request old records answer

@@ -1,5 +1,6 @@
 -- PROPFIND (RFC 4918, section 9.1): returns properties of resources.
-use Rattle.std.specs.Prelude.{◌≡◌, ◌⊎◌, not, ◌&&◌, Bool, if◌then◌else◌, List, [], ◌∷◌, ◌++◌, map, codes, is_some, Option, Some, None, unwrap_or, Ok}
+use Rattle.std.specs.Prelude.{◌≡◌, ◌⊎◌, ◌/◌, ℕ, max, length, not, ◌&&◌, Bool, if◌then◌else◌, List, [], ◌∷◌, ◌++◌, map, codes, is_some, Option, Some, None, unwrap_or, Ok}
+use Rattle.std.specs.Option.{option_map}
 use Rattle.http.specs.declared.version.TheConstants.Version.{HTTP_11}
 use Rattle.http_header.specs.HeaderMap.{Entries}
 use Rattle.http_header.specs.FieldValue.{FieldValue}
@@ -23,7 +24,7 @@ use Rattle.dav_walks.specs.declared.listing.Resource.{Resource}
 use Rattle.dav_find.specs.Asked.{Asking, asking_of}
 use Rattle.dav_find.specs.Declaring.{with_prefixes}
 use Rattle.dav_find.specs.Finding.{View}
-use Rattle.dav_find.specs.Visiting.{Visit, VisitsFrom, response_of, is_infinite}
+use Rattle.dav_find.specs.Visiting.{Visit, End, Whole, TooMany, Lacking, WalksFrom, response_of, is_infinite}
 use Rattle.dav_find.specs.declared.search.FindKind.{FindKind}
 use Rattle.dav_engine.specs.Location.{location_fields}
 use Rattle.dav_engine.specs.Rules.{judged, must_find, fixed_path}
@@ -57,6 +58,14 @@ finite_depth_error = with_elements (declaring_element (codes "D:error")) (prefix
 abbrev pub finite_depth_reply : Profile → Reply
 finite_depth_reply profile = record { status = 501; version = HTTP_11; headers = propfind_fields profile; body = Body.Tree finite_depth_error }
 
+-- the precondition that a PROPFIND fails which would report too much, `number-of-matches-within-limits` (RFC 4791, section 7.8)
+abbrev pub limit_error : Tree
+limit_error = with_elements (declaring_element (codes "D:error")) (prefixed_element (codes "D:number-of-matches-within-limits") ∷ [])
+
+-- with the status that RFC 6578, section 3.6, has for it
+abbrev pub limit_reply : Profile → Reply
+limit_reply profile = record { status = 507; version = HTTP_11; headers = propfind_fields profile; body = Body.Tree limit_error }
+
 -- 207, with a response element for each reported resource
 abbrev pub propfind_reply : Profile → DavRequest → Meta × Asking → List Visit → Reply
 propfind_reply profile request found visits =
@@ -66,6 +75,16 @@ propfind_reply profile request found visits =
       headers = propfind_fields profile ++ location_fields request.path (Some found.0);
       body = Body.Tree (with_elements (with_prefixes found.1.asked (property_multistatus [])) (map (response_of profile) visits));
     }
+
+-- ---- the limit
+
+-- how many values of properties are counted for each resource: one for each requested property, and at least one
+abbrev pub value_count : Asking → ℕ
+value_count asking = max (length asking.asked) 1
+
+-- how many resources may be reported: as many as have no more values together than the limit allows
+abbrev pub most_resources : Option ℕ → Asking → Option ℕ
+most_resources limit asking = option_map (λ n. n / value_count asking) limit
 
 -- ---- the rules
 
@@ -101,19 +120,26 @@ view_in settings request state kind =
 abbrev pub target_at : DavRequest → Meta → Resource
 target_at request meta = record { path = fixed_path request.path (Some meta); meta = meta }
 
--- over these records these resources are reported; `None`: memory ran out
-abbrev pub Searches : Settings → DavRequest → Meta × Asking → State → List Logged → Option (List Visit) → Type 0
+-- over these records the walk ends in this way, which reports no more resources than the limit allows (`most_resources`)
+abbrev pub Searches : Settings → DavRequest → Meta × Asking → State → List Logged → End → Type 0
 Searches settings request found old records end =
-    VisitsFrom (view_in settings request old found.1.kind) old.contents found.1.asked (target_at request found.0) (depth_or_default request) records end
+    WalksFrom (view_in settings request old found.1.kind) old.contents found.1.asked (most_resources settings.property_limit found.1)
+    (target_at request found.0) (depth_or_default request) records end
 
--- the resources are reported, and nothing changes
+-- the response to a walk that ends in this way; there is none if memory ran out
+abbrev pub IsReplyTo : Profile → DavRequest → Meta × Asking → End → Answer → Type 0
+IsReplyTo profile request found (Whole visits) answer = answer ≡ Ok (propfind_reply profile request found visits)
+IsReplyTo profile request found TooMany answer = answer ≡ Ok (limit_reply profile)
+IsReplyTo profile request found Lacking answer = ⊥
+
+-- the resources are reported, or the response says that they are too many, and nothing changes
 pub record PropfindWork (settings : Settings) (request : DavRequest) (found : Meta × Asking) (old : State) (records : List Logged) (answer : Answer) (new : State) : Type 0 where
-  pub visits : List Visit
-  pub searches : Searches settings request found old records (Some visits)
-  pub answered : answer ≡ Ok (propfind_reply settings.profile request found visits)
+  pub end : End
+  pub searches : Searches settings request found old records end
+  pub answered : IsReplyTo settings.profile request found end answer
   pub same : new ≡ old
 
--- memory ran out, and nothing changes
+-- memory ran out, before the walk or in it, or for the response that says that the resources are too many; and nothing changes
 pub record PropfindCut (settings : Settings) (request : DavRequest) (found : Meta × Asking) (old : State) (records : List Logged) (new : State) : Type 0 where
-  pub searches : (records ≡ []) ⊎ Searches settings request found old records None
+  pub searches : (records ≡ []) ⊎ Searches settings request found old records Lacking ⊎ Searches settings request found old records TooMany
   pub same : new ≡ old

@@ -1,5 +1,5 @@
 //! The engine's struct, and functions that several methods share.
-ghost use Rattle.std.specs.Prelude.{◌≡◌, IfOk, OnErr, option_map, option_copied, string_bytes};
+ghost use Rattle.std.specs.Prelude.{◌≡◌, None, IfOk, OnErr, option_map, option_copied, string_bytes};
 ghost use Rattle.dav_resource.specs.declared.profile.Profile.TheVariants.{Crate};
 ghost use Rattle.dav_engine.specs.DavInner.{lent, lent_locks, loans, made_with};
 ghost use Rattle.dav_messages.specs.Dialogue.{look_up as look_up_of};
@@ -23,10 +23,12 @@ pub struct DavInner<'a, C, F, L> {
     pub(crate) allow: Option<DavMethodSet>,
     pub(crate) credentials: C,
     pub(crate) profile: Profile,
+    pub(crate) property_limit: Option<usize>,
 }
 
 impl<'a, C: Drop, F: GuardedFileSystem<C>, L: DavLockSystem> DavInner<'a, C, F, L> {
-    /// Creates an engine over this store and, if there is one, this lock system, with the profile `Crate`.
+    /// Creates an engine over this store and, if there is one, this lock system, with the profile `Crate` and no
+    /// limit on what a PROPFIND reports.
     ///
     /// `prefix` is the path prefix of the server's URLs: the path in `Destination` has to be below it.
     /// `allow` is the set of methods that the embedding program enables (`None`: all). It only decides which
@@ -42,7 +44,7 @@ impl<'a, C: Drop, F: GuardedFileSystem<C>, L: DavLockSystem> DavInner<'a, C, F, 
         ensures same_loans { loans result ≡ (fs.entry.ghost_name, option_map (λ l. l.ghost_name) ls.entry) }
         ensures store { lent result ≡ fs.old }
         ensures locks { lent_locks result ≡ option_map (λ l. l.now) ls.entry }
-        ensures settings { made_with result ≡ (string_bytes prefix, allow, credentials, Crate) }
+        ensures settings { made_with result ≡ (string_bytes prefix, allow, credentials, Crate, None) }
     {
         DavInner {
             fs,
@@ -51,6 +53,7 @@ impl<'a, C: Drop, F: GuardedFileSystem<C>, L: DavLockSystem> DavInner<'a, C, F, 
             allow,
             credentials,
             profile: Profile::Crate,
+            property_limit: None,
         }
     }
 
@@ -59,6 +62,22 @@ impl<'a, C: Drop, F: GuardedFileSystem<C>, L: DavLockSystem> DavInner<'a, C, F, 
         ensures { result ≡ record self.entry { profile = profile } }
     {
         DavInner { profile, ..self }
+    }
+
+    /// Returns the engine with this limit on how many values of properties one PROPFIND may report. `None` is no
+    /// limit.
+    ///
+    /// Each reported resource counts as many values as properties are requested, and at least one. A property
+    /// that the request names twice counts once, and the dead properties that `allprop` and `propname` add do
+    /// not count. A PROPFIND that would report more values is rejected with 507 and the precondition
+    /// `number-of-matches-within-limits`.
+    pub fn with_property_limit(self, limit: Option<usize>) -> Self
+        ensures { result ≡ record self.entry { property_limit = limit } }
+    {
+        DavInner {
+            property_limit: limit,
+            ..self
+        }
     }
 
     /// Returns the path prefix of the server's URLs.

@@ -9,7 +9,7 @@ ghost use Rattle.dav_find.specs.Declaring.{with_prefixes};
 ghost use Rattle.dav_find.specs.Searching.{asking_for};
 ghost use Rattle.dav_engine.specs.DavInner.{lent, lent_locks};
 ghost use Rattle.dav_engine.specs.Location.{location_fields};
-ghost use Rattle.dav_engine.specs.Propfind.{depth_or_default as depth_of_propfind, is_too_deep as is_too_deep_request, finite_depth_error as tree_of_finite_depth, finite_depth_reply as reply_of_finite_depth, uncached_fields, propfind_fields};
+ghost use Rattle.dav_engine.specs.Propfind.{depth_or_default as depth_of_propfind, is_too_deep as is_too_deep_request, finite_depth_error as tree_of_finite_depth, finite_depth_reply as reply_of_finite_depth, limit_error as tree_of_limit, limit_reply as reply_of_limit, most_resources as most_of, uncached_fields, propfind_fields};
 ghost use Rattle.dav_engine.specs.Rules.{must_find};
 ghost use Rattle.dav_engine.specs.Served.{IsServed};
 ghost use Rattle.dav_engine.specs.ByEngine.{IsSameEngine, JudgesBy, DoesWork};
@@ -42,6 +42,9 @@ impl<'a, C: Drop, F: GuardedFileSystem<C>, L: DavLockSystem> DavInner<'a, C, F, 
     /// Each property that the request names is reported once: with 200, with the status of the call that the
     /// store refused, or with 404. If a listing fails, its members are left out, and so is a member that the
     /// store does not list. Conditions and locks are not checked.
+    ///
+    /// With a limit (`with_property_limit`), a request that would report more values of properties gets a 507 and
+    /// no property. The members of a directory count once it is listed, before any of them is looked at.
     ///
     /// Errors: the store's error if the lookup of the path fails, `XmlParseError` (400) if the body is not
     /// that of a PROPFIND, and `Memory`. The store's contents and the locks never change.
@@ -99,7 +102,11 @@ impl<'a, C: Drop, F: GuardedFileSystem<C>, L: DavLockSystem> DavInner<'a, C, F, 
             profile: self.profile,
         };
         let depth = depth_or_default(request);
-        let writer = finder.propfind_directory(self.fs, &target, depth, writer)?;
+        let most = most_resources(self.property_limit, search);
+        let walked = finder.propfind_directory(self.fs, &target, depth, most, writer)?;
+        let Some(writer) = walked else {
+            return limit_reply(alloc, self.profile);
+        };
         *reply.body_mut() = Body::Tree(writer.close()?);
         Ok(reply)
     }
@@ -161,6 +168,38 @@ fn finite_depth_error(alloc: Global) -> Result<Element, AllocError>
 {
     let mut tree = declaring_element(alloc, ElementName::Error)?;
     tree.push_element(Element::constant(alloc, ElementName::PropfindFiniteDepth))?;
+    Ok(tree)
+}
+
+/// Returns how many resources may be reported: as many as have no more values together than the limit allows.
+fn most_resources(limit: Option<usize>, search: &Search) -> Option<usize>
+    ensures { result ≡ most_of limit (asking_for search.now) }
+{
+    match limit {
+        Some(limit) => Some(limit / search.asked.len().max(1)),
+        None => None,
+    }
+}
+
+/// Makes the 507 response that names the precondition that is not met. The only error is `Memory`.
+fn limit_reply(alloc: Global, profile: Profile) -> DavResult<Response<Body>>
+    ensures ok { IfOk result (λ reply. reply_of reply ≡ reply_of_limit profile) }
+    ensures err { IfErr result (λ e. e ≡ Memory) }
+{
+    let tree = limit_error(alloc)?;
+    let mut headers = uncached_headers(alloc)?;
+    add_xml_type(&mut headers, profile)?;
+    let mut reply = Response::new(alloc, Body::Tree(tree));
+    *reply.status_mut() = StatusCode::INSUFFICIENT_STORAGE;
+    *reply.headers_mut() = headers;
+    Ok(reply)
+}
+
+fn limit_error(alloc: Global) -> Result<Element, AllocError>
+    ensures { IfOk result (λ tree. tree ≡ tree_of_limit) }
+{
+    let mut tree = declaring_element(alloc, ElementName::Error)?;
+    tree.push_element(Element::new2(alloc, "D:number-of-matches-within-limits")?)?;
     Ok(tree)
 }
 

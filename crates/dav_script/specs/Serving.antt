@@ -62,10 +62,11 @@ first_shared profile prefix =
 abbrev pub without_log : Shared → Shared
 without_log shared = record shared { seen = record shared.seen { store = record shared.seen.store { log = [] } } }
 
--- one run of the engine has served these requests with these results, in this profile, below this prefix and with all methods enabled (`Runs`)
+-- one run of the engine has served these requests with these results, in this profile, below this prefix, with all methods enabled and with no limit
+-- on a PROPFIND (`Runs`)
 abbrev pub RunsBelow : Profile → List ℕ → Seen → List DavRequest → List Answer → Seen → Type 0
 RunsBelow profile prefix old requests answers new =
-    Runs (record { prefix = prefix; allow = None; profile = profile; facts = old.store.facts }) old requests answers new
+    Runs (record { prefix = prefix; allow = None; profile = profile; property_limit = None; facts = old.store.facts }) old requests answers new
 
 -- one run of the engine has served these requests, in order, over the store and the lock system; nothing else has changed
 pub record AreRun (old : Shared) (requests : List DavRequest) (new : Shared) : Type 0 where

@@ -19,11 +19,13 @@ use Rattle.dav_engine.specs.Settings.{Settings}
 use Rattle.dav_engine.specs.State.{Seen}
 use Rattle.dav_server.specs.declared.server.Server.{Server}
 
--- what no frame changes: the path prefix of the server's URLs, the methods that OPTIONS may list, and whether anyone may remove and refresh a lock
+-- what no frame changes: the path prefix of the server's URLs, the methods that OPTIONS may list, the profile, how many values of properties one
+-- PROPFIND may report, and whether anyone may remove and refresh a lock
 pub record Rules : Type 0 where
   pub prefix : List ℕ
   pub allow : Option DavMethodSet
   pub profile : Profile
+  pub property_limit : Option ℕ
   pub anyone_unlocks : Bool
 
 -- the store and the locks, the rules of access rights if there are some, the time (in whole seconds since 1970), and the number of the last batch
@@ -83,6 +85,7 @@ module _ {F L : Type 0} where
         prefix = string_bytes server.engine.prefix;
         allow = server.engine.allow;
         profile = server.engine.profile;
+        property_limit = server.engine.property_limit;
         anyone_unlocks = server.anyone_unlocks;
       }
 
@@ -99,13 +102,20 @@ resumed_state store locks rights now last =
 abbrev pub first_state : Store → Locks → ServerState
 first_state store locks = resumed_state store locks None 0 0
 
--- the rules of a server whose OPTIONS may list all methods, in the profile of the standards
+-- the rules of a server whose OPTIONS may list all methods, in the profile of the standards and with no limit on a PROPFIND
 abbrev pub first_rules : List ℕ → Bool → Rules
-first_rules prefix anyone_unlocks = record { prefix = prefix; allow = None; profile = Standard; anyone_unlocks = anyone_unlocks }
+first_rules prefix anyone_unlocks = record { prefix = prefix; allow = None; profile = Standard; property_limit = None; anyone_unlocks = anyone_unlocks }
 
 -- the settings under which a request is served from here
 abbrev pub settings_at : Rules → Seen → Settings
-settings_at rules seen = record { prefix = rules.prefix; allow = rules.allow; profile = rules.profile; facts = seen.store.facts }
+settings_at rules seen =
+    record {
+      prefix = rules.prefix;
+      allow = rules.allow;
+      profile = rules.profile;
+      property_limit = rules.property_limit;
+      facts = seen.store.facts;
+    }
 
 -- the locks of a state, if there is a lock system
 abbrev pub locks_at : ServerState → Option (List DavLock)

@@ -41,7 +41,7 @@ returns-clause-step g c =
     let shallow : is_too_deep c.args.request.now ≡ false = sym c.is_too_deep.ensures ∙ c.if-is_too_deep.false in
     let found = c.in_ok-meta.ensures in
     let read = rw (c.user_agent.ensures, found.rules.fixed) at c.in_ok-search.ensures in
-    let work = rw (ap (λ f. f.1.0) found.same_engine, ap (λ f. f.1.1) found.same_engine, ap (λ f. f.1.3) found.same_engine, found.rules.fixed, found.same_locks) at c.report_found.ensures.work in
+    let work = rw (ap (λ f. f.1.0) found.same_engine, ap (λ f. f.1.1) found.same_engine, ap (λ f. f.1.3) found.same_engine, ap (λ f. f.1.4) found.same_engine, found.rules.fixed, found.same_locks) at c.report_found.ensures.work in
     serves_work propfind_method propfind_sound (settings_by g.F.GuardedFileSystem.seen c.args.self.now) c.args.request.now _ (c.in_ok-meta.meta, asking_for c.in_ok-search.search) _ _ _ _ (lawful g.F.GuardedFileSystem.seen g.L.DavLockSystem.seen g.met.F.GuardedFileSystem.well_formed g.met.L.DavLockSystem.distinct c.args.self.now)
     (judges_sought c.args.self.now.profile held c.args.request.now state shallow _ _ c.in_ok-meta.meta found.rules _ read) work
 
