@@ -24,7 +24,7 @@ use Rattle.dav_find.specs.Asked.{AskedProperty}
 use Rattle.dav_find.specs.Finding.{View, QuotaAnswer, returned_by, quota_pair, ask_quota, live_result, find_quota, find_live, name_in, is_looked_up, find_kept, find_by, find_one, find_each, AreKept, props_call, is_all_sought, find_stored}
 use Rattle.dav_find.specs.Reporting.{report_of}
 use Rattle.dav_find.specs.Response.{response_rules, ComesTo, Responds}
-use Rattle.dav_find.specs.Visiting.{Visit, is_shown, is_listed, member_depth, Shows, FindsMembers, Visits, VisitsInPart, reporting, reported, finding, VisitsAll, over, more, stops, VisitsFrom, begins, breaks}
+use Rattle.dav_find.specs.Visiting.{Visit, is_shown, is_listed, member_depth, Shows, FindsMembers, Visits, VisitsInPart, reporting, reported, finding, VisitsAll, over, more, stops, VisitsFrom, begins, breaks, Exceeds, full, further, ExceedsFrom, at_once, below, shown_count, room_after, End, Whole, TooMany, Lacking, WalksFrom}
 use Rattle.dav_access.specs.Sight.{Sight, AreSeen, LooksAlike}
 use Rattle.dav_access.proofs.AlikeCalls.{same_quota, same_get_prop, same_properties, same_properties_bar, same_members, same_list}
 use Rattle.dav_access.proofs.AlikeDialogues.{IsSeen, Alike, alike_asks, alike_then, alike_first, alike_leads, alike_passes, seen_first, seen_rest}
@@ -191,8 +191,26 @@ module _ (sight : Sight) (view : View) (one other : Contents) (alike : LooksAlik
           (all_alike depth (members ++ rest) next others later (seen_rest sight first others records cut seen) all) is
       all_alike depth waiting quota records end seen (stops here rest waits part is) = stops here rest waits (in_part depth here quota records seen part) is
 
-      pub search_alike : (target : Resource) (depth : Depth) (records : List Logged) (end : Option (List Visit)) → AreSeen sight records → VisitsFrom view one asked target depth records end → VisitsFrom view other asked target depth records end
-      search_alike target depth records end seen (begins first others visits next members later cut v all is) =
+      from_alike : (target : Resource) (depth : Depth) (records : List Logged) (end : Option (List Visit)) → AreSeen sight records → VisitsFrom view one asked target depth records end → VisitsFrom view other asked target depth records end
+      from_alike target depth records end seen (begins first others visits next members later cut v all is) =
           begins first others visits next members later cut (visits_alike depth target None first visits next members (seen_first sight first others records cut seen) v)
           (all_alike (member_depth depth) members next others later (seen_rest sight first others records cut seen) all) is
-      search_alike target depth records end seen (breaks part is) = breaks (in_part depth target None records seen part) is
+      from_alike target depth records end seen (breaks part is) = breaks (in_part depth target None records seen part) is
+
+      -- a search that finds too many resources
+      exceeds_alike : (depth : Depth) (room : Option ℕ) (waiting : List Resource) (quota : Option QuotaAnswer) (records : List Logged) → AreSeen sight records → Exceeds view one asked depth room waiting quota records → Exceeds view other asked depth room waiting quota records
+      exceeds_alike depth room waiting quota records seen (full beyond none) = full beyond none
+      exceeds_alike depth room waiting quota records seen (further here rest first others visits next members waits within cut v exceeds) =
+          further here rest first others visits next members waits within cut (visits_alike depth here quota first visits next members (seen_first sight first others records cut seen) v)
+          (exceeds_alike depth (room_after room 1) (members ++ rest) next others (seen_rest sight first others records cut seen) exceeds)
+
+      exceeds_from_alike : (most : Option ℕ) (target : Resource) (depth : Depth) (records : List Logged) → AreSeen sight records → ExceedsFrom view one asked most target depth records → ExceedsFrom view other asked most target depth records
+      exceeds_from_alike most target depth records seen (at_once beyond none) = at_once beyond none
+      exceeds_from_alike most target depth records seen (below first others visits next members within cut v exceeds) =
+          below first others visits next members within cut (visits_alike depth target None first visits next members (seen_first sight first others records cut seen) v)
+          (exceeds_alike (member_depth depth) (room_after most (shown_count depth)) members next others (seen_rest sight first others records cut seen) exceeds)
+
+      pub search_alike : (most : Option ℕ) (target : Resource) (depth : Depth) (records : List Logged) (end : End) → AreSeen sight records → WalksFrom view one asked most target depth records end → WalksFrom view other asked most target depth records end
+      search_alike most target depth records (Whole visits) seen walk = (from_alike target depth records (Some visits) seen walk.0, walk.1)
+      search_alike most target depth records TooMany seen walk = exceeds_from_alike most target depth records seen walk
+      search_alike most target depth records Lacking seen walk = from_alike target depth records None seen walk

@@ -24,12 +24,12 @@ use Rattle.dav_messages.specs.Reply.{Answer}
 use Rattle.dav_engine.specs.Answered.{Unbegun}
 use Rattle.dav_engine.specs.Method.{Method, StepBy, Refused, Done, CutShort, CutInWork}
 use Rattle.dav_engine.specs.Methods.{Step, IsUnserved, mkcol_method, write_method, delete_method, copy_method, move_method, lock_method, unlock_method, proppatch_method, options_method, propfind_method}
-use Rattle.dav_engine.specs.Propfind.{view_in, target_at, depth_or_default, Searches}
+use Rattle.dav_engine.specs.Propfind.{view_in, target_at, depth_or_default, most_resources, Searches}
 use Rattle.dav_engine.specs.Settings.{Settings}
 use Rattle.dav_engine.specs.State.{State, IsLawfulState, Seen, state_of, facts_of}
 use Rattle.dav_engine.specs.Step.{Run, Runs, Serves}
 use Rattle.dav_find.specs.Asked.{Asking}
-use Rattle.dav_find.specs.Visiting.{Visit}
+use Rattle.dav_find.specs.Visiting.{End, TooMany, Lacking}
 use Rattle.dav_access.proofs.ChangeLaws.{later}
 use Rattle.dav_access.specs.Sight.{Sight, MaySee, AreSeen, LooksAlike}
 use Rattle.dav_access.proofs.AlikeChanges.{followed, follows_same}
@@ -140,19 +140,21 @@ module _ (sight : Sight) (settings : Settings) (lets : (key : Key) → settings.
     follows_step (Some PropFind) =
         step_by propfind_method (alike_propfind sight request old other like settings.profile settings.facts.bodies)
         (λ found rest seen work. followed (λ after same. record {
-          visits = work.visits;
-          searches = searches found rest (Some work.visits) seen work.searches;
+          end = work.end;
+          searches = searches found rest work.end seen work.searches;
           answered = work.answered;
           same = same;
         }) (follows_stay sight old new other alike work.same))
         (λ found rest seen work. followed (λ after same. record { searches = in_part found rest seen work.searches; same = same }) (follows_stay sight old new other alike work.same))
       where
-        searches : (found : Meta × Asking) (rest : List Logged) (end : Option (List Visit)) → AreSeen sight rest → Searches settings request found old rest end → Searches settings request found (with old other) rest end
-        searches found rest end seen = search_alike sight (view_in settings request old found.1.kind) old.contents other like found.1.asked lets (target_at request found.0) (depth_or_default request) rest end seen
+        searches : (found : Meta × Asking) (rest : List Logged) (end : End) → AreSeen sight rest → Searches settings request found old rest end → Searches settings request found (with old other) rest end
+        searches found rest end seen = search_alike sight (view_in settings request old found.1.kind) old.contents other like found.1.asked lets (most_resources settings.property_limit found.1) (target_at request found.0) (depth_or_default request) rest end seen
 
-        in_part : (found : Meta × Asking) (rest : List Logged) → AreSeen sight rest → (rest ≡ []) ⊎ Searches settings request found old rest None → (rest ≡ []) ⊎ Searches settings request found (with old other) rest None
+        in_part : (found : Meta × Asking) (rest : List Logged) → AreSeen sight rest → (rest ≡ []) ⊎ Searches settings request found old rest Lacking ⊎ Searches settings request found old rest TooMany
+            → (rest ≡ []) ⊎ Searches settings request found (with old other) rest Lacking ⊎ Searches settings request found (with old other) rest TooMany
         in_part found rest seen (inl none) = inl none
-        in_part found rest seen (inr part) = inr (searches found rest None seen part)
+        in_part found rest seen (inr (inl part)) = inr (inl (searches found rest Lacking seen part))
+        in_part found rest seen (inr (inr part)) = inr (inr (searches found rest TooMany seen part))
     follows_step (Some Head) = unserved
     follows_step (Some Get) = unserved
     follows_step None = unserved
