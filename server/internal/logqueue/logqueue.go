@@ -105,7 +105,7 @@ func (q *Queue) take() (lines []byte, dropped uint64, ok bool) {
 	return lines, dropped, true
 }
 
-// lose counts lines that could not be written. Nobody was told of those that were dropped before.
+// lose counts lines that could not be written. Those that were dropped before are still to be reported.
 func (q *Queue) lose(lines []byte, dropped uint64) {
 	q.mu.Lock()
 	defer q.mu.Unlock()
