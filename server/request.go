@@ -153,7 +153,7 @@ func (h *Handler) checkSegments(r *http.Request) error {
 
 // segments returns how many segments the path of a URL has. davd reads a backslash in a Destination as a slash.
 func segments(text string) int {
-	if _, after, ok := strings.Cut(text, "://"); ok {
+	if _, after, ok := strings.Cut(text, "://"); ok && !strings.HasPrefix(text, "/") {
 		_, text, _ = strings.Cut(after, "/")
 	}
 	return len(strings.FieldsFunc(text, func(r rune) bool { return r == '/' || r == '\\' }))

@@ -88,6 +88,7 @@ func TestSegments(t *testing.T) {
 	for text, want := range map[string]int{
 		"": 0, "/": 0, "//": 0, "/a": 1, "/a/": 1, "/a/b": 2, "/a//b": 2, "/a%2fb": 1, `/a\b`: 2,
 		"http://host": 0, "http://host/": 0, "http://host/a/b": 2, "http://host:80/a": 1, `http://host/a\b`: 2,
+		"/a/b/x://../c": 5, "/a/b?://": 2, "http://host/a/x://b/c": 4,
 	} {
 		if got := segments(text); got != want {
 			t.Errorf("%q has %d segments, not %d", text, got, want)
