@@ -3,7 +3,7 @@ ghost use Rattle.std.specs.Prelude.{◌≡◌, ◌≤◌, IfOk, IfSome, string_b
 ghost use Rattle.http_header.specs.FieldValue.{IsFieldValue, plain_value};
 ghost use Rattle.httpdate.specs.Date.{unix_secs};
 ghost use Rattle.dav_dates.specs.Moment.{last_shown, shown_moment};
-ghost use Rattle.dav_dates.specs.HttpDate.{IsHttpDate, http_date_text, date_in};
+ghost use Rattle.dav_dates.specs.HttpDate.{IsHttpDate, NamesSecond, http_date_text, date_in};
 
 use bytes::Bytes;
 use http_header::HeaderValue;
@@ -51,6 +51,7 @@ pub fn http_date_value(alloc: Global, secs: u64) -> Result<HeaderValue, AllocErr
 pub fn read_http_date(text: &str) -> Option<u64>
     ensures exact { result ≡ date_in text.now }
     ensures shown { IfSome result (λ secs. secs ≤ last_shown) }
+    ensures named { IfSome result (λ secs. NamesSecond text.now secs) }
 {
     let date = HttpDate::parse_ascii(text.as_bytes()).ok()?;
     shown_moment(Some(date.unix_secs()))

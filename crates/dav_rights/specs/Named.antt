@@ -1,11 +1,15 @@
 -- Laws: no rule that is for a caller with a name drops out, and a caller that is barred may do nothing.
-use Rattle.std.proofs.Common.{◌≡◌, ℕ, Bool, true, false, not, ◌&&◌, ◌||◌, List, [], ◌∷◌, bytes_eq, codes, if◌then◌else◌, Option, Some, None, is_some, refl}
+use Rattle.std.proofs.Common.{◌≡◌, ◌∙◌, ap, suc, map, ◌++◌, ℕ, Bool, true, false, not, ◌&&◌, ◌||◌, List, [], ◌∷◌, bytes_eq, codes, if◌then◌else◌, Option, Some, None, is_some, refl}
 use Rattle.std.specs.List.{list_all, list_any}
-use Rattle.std.proofs.lemmas.Bool.{and_from}
+use Rattle.std.proofs.lemmas.Bool.{and_from, and_parts}
+use Rattle.std.specs.Option.{option_to_list, option_map}
+use Rattle.dav_rights.specs.declared.rule.Rule.{Rule}
 use Rattle.dav_key.specs.Key.{Key}
 use Rattle.dav_resource.specs.PathText.{is_segment}
-use Rattle.dav_rights.specs.Rights.{nothing, explanation}
-use Rattle.dav_rights.specs.Rules.{Caller, is_for, own_segment, joined, key_for, has_user_segment, is_by_name, is_barred, rules_for}
+use Rattle.dav_resource.specs.declared.record.Op.{Op}
+use Rattle.dav_resource.specs.declared.record.Op.TheVariants as ops
+use Rattle.dav_rights.specs.Rights.{nothing, explanation, is_free, permits}
+use Rattle.dav_rights.specs.Rules.{Caller, is_for, own_segment, joined, key_for, has_user_segment, is_by_name, is_barred, rule_for, rules_from, rules_for}
 use Rattle.dav_rights.specs.declared.rules.WrittenRule.{WrittenRule}
 
 -- a caller that is barred may do nothing anywhere, and no rule decides
@@ -69,3 +73,40 @@ each_applies name rules free = by_name (is_segment name) refl
     by_name : (b : Bool) → is_segment name ≡ b → list_all (applies_if_for (Some name)) rules ≡ true
     by_name true may = applies-named name may rules
     by_name false may = applies-plain (Some name) rules (rw may at free)
+
+-- ---- none is left out
+
+-- the numbers of the rules that are for a caller, in order
+abbrev pub numbers_for : ℕ → Caller → List WrittenRule → List ℕ
+numbers_for number caller [] = []
+numbers_for number caller (written ∷ rest) = (if is_for caller written.who then number ∷ [] else []) ++ numbers_for (suc number) caller rest
+
+listed : (number : ℕ) (written : WrittenRule) (b : Bool) (key : Option Key) (rest : List Rule) → (not b || is_some key) ≡ true
+    → map (λ (r : Rule). r.number) (option_to_list (if b then option_map (λ key. record { number = number; key = key; below = written.below; allowed = written.allowed }) key else None) ++ rest)
+    ≡ (if b then number ∷ [] else []) ++ map (λ (r : Rule). r.number) rest
+listed number written true None rest applies = absurd cc
+listed number written true (Some key) rest applies = refl
+listed number written false key rest applies = refl
+
+all_listed : (caller : Caller) (number : ℕ) (rules : List WrittenRule) → list_all (applies_if_for caller) rules ≡ true
+    → map (λ (r : Rule). r.number) (rules_from number caller rules) ≡ numbers_for number caller rules
+all_listed caller number [] all = refl
+all_listed caller number (written ∷ rest) all =
+    let both = and_parts (applies_if_for caller written) (list_all (applies_if_for caller) rest) all in
+    listed number written (is_for caller written.who) (key_for caller written.key) (rules_from (suc number) caller rest) both.0
+    ∙ ap (λ numbers. (if is_for caller written.who then number ∷ [] else []) ++ numbers) (all_listed caller (suc number) rest both.1)
+
+-- a caller with a name is barred, or exactly the rules that are for it apply to it, in order
+pub none_drops : (name : List ℕ) (rules : List WrittenRule) → is_barred (Some name) rules ≡ false
+    → map (λ (r : Rule). r.number) (rules_for (Some name) rules) ≡ numbers_for 1 (Some name) rules
+none_drops name rules free = rw free (all_listed (Some name) 1 rules (each_applies name rules free))
+
+-- a caller that is barred is refused each call that is not everyone's
+pub barred_refused : (caller : Caller) (rules : List WrittenRule) (op : Op) (key : Key) → is_barred caller rules ≡ true → is_free op ≡ false
+    → permits (rules_for caller rules) op (key ∷ []) ≡ false
+barred_refused caller rules ops.Metadata key barred free = rw barred refl
+barred_refused caller rules ops.FileMetadata key barred free = rw barred refl
+barred_refused caller rules op key barred free = rw barred (none op free)
+  where
+    none : (op : Op) → is_free op ≡ false → permits [] op (key ∷ []) ≡ false
+    none op free = cc
