@@ -113,17 +113,23 @@ func TestABackupThatFailsHasEnded(t *testing.T) {
 	}
 }
 
+// expectPanic calls a function that must panic with this value.
+func expectPanic(t *testing.T, want any, f func()) {
+	t.Helper()
+	defer func() {
+		if got := recover(); got != want {
+			t.Errorf("recovered %v, want %v", got, want)
+		}
+	}()
+	f()
+}
+
 func TestABackupWhoseWriterPanicsHasEnded(t *testing.T) {
 	handler := startHandler(t, Options{Folder: t.TempDir()})
 	put(t, handler, "/a", "this is a file")
-	func() {
-		defer func() {
-			if recovered := recover(); recovered != "a wrong index" {
-				t.Errorf("recovered: %v", recovered)
-			}
-		}()
+	expectPanic(t, "a wrong index", func() {
 		handler.Backup(context.Background(), writer(func([]byte) (int, error) { panic("a wrong index") }))
-	}()
+	})
 	put(t, handler, "/a", "the server goes on")
 	if err := handler.Backup(context.Background(), io.Discard); err != nil {
 		t.Errorf("the next backup: %v", err)

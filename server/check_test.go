@@ -199,14 +199,9 @@ func TestACheckOfAClosedHandlerEnds(t *testing.T) {
 func TestACheckThatPanicsHasEnded(t *testing.T) {
 	handler := startHandler(t, Options{Folder: t.TempDir()})
 	put(t, handler, "/a", "this is a file")
-	func() {
-		defer func() {
-			if recovered := recover(); recovered != "a wrong index" {
-				t.Errorf("recovered: %v", recovered)
-			}
-		}()
+	expectPanic(t, "a wrong index", func() {
 		handler.CheckFiles(context.Background(), CheckOptions{Progress: func(CheckState) { panic("a wrong index") }})
-	}()
+	})
 	if state := handler.Checked(); state.State != "failed" || state.Error != errBroken.Error() {
 		t.Errorf("after a panic: %+v", state)
 	}

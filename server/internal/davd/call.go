@@ -247,8 +247,8 @@ func (c *call) isAlone() bool {
 
 // cut splits the calls of the next batch from the others. The batch has at least one call. One that sets access rules is
 // alone in its batch, and so is one of an operator, and one that gets the reserve.
-func cut(calls []*call, isLent func(*call) bool) (batch, rest []*call) {
-	isAlone := func(c *call) bool { return c.isAlone() || isLent(c) }
+func cut(calls []*call, getsReserve func(*call) bool) (batch, rest []*call) {
+	isAlone := func(c *call) bool { return c.isAlone() || getsReserve(c) }
 	size, frames := 0, 0
 	for i, c := range calls {
 		size += c.size()

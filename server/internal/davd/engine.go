@@ -348,8 +348,8 @@ func (e *Engine) next() *batch {
 		return nil
 	}
 	short := shortage{process: p}
-	isLent := short.isFor(e.waiting[0])
-	if e.mustWait(isLent) {
+	getsReserve := short.isFor(e.waiting[0])
+	if e.mustWait(getsReserve) {
 		return nil
 	}
 	e.writing = true
@@ -359,8 +359,8 @@ func (e *Engine) next() *batch {
 	b.written.Add(1)
 	b.calls, e.waiting = cut(e.waiting, short.isFor)
 	e.guard(b)
-	if isLent {
-		p.lend(b)
+	if getsReserve {
+		p.giveReserve(b)
 	}
 	for _, c := range b.calls {
 		c.sentTo, c.number = p, b.number

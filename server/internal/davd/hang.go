@@ -8,8 +8,8 @@ import (
 // DefaultHangTimeout is how long davd may stand still with a batch, unless a Config says otherwise.
 const DefaultHangTimeout = 2 * time.Minute
 
-// hangLooks is how many times in a HangTimeout davd is looked at. A time in which davserve, or the whole machine, was
-// suspended counts as one.
+// hangLooks is how often davserve looks at davd within a HangTimeout. Looks count, and not the time, so that a suspended
+// machine does not make davd seem to hang.
 const hangLooks = 12
 
 // A sight is what is seen of a davd at a time. The zero sight is one at which nothing was seen.

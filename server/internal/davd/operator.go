@@ -90,10 +90,10 @@ func (o *Operator) send(ctx context.Context, f frame.Frame) ([]byte, error) {
 // mustWait reports whether the first call that waits can be sent only later. A call of an operator changes access rules, and
 // one that frees may get the reserve. So it is sent when davd has answered everything, and nothing is sent until it is
 // answered. What is held in place of the reserve is sent before everything else. It is called with e.mu held.
-func (e *Engine) mustWait(isLent bool) bool {
+func (e *Engine) mustWait(getsReserve bool) bool {
 	p := e.process
 	changes := e.waiting[0].operates != "" && (e.rights != nil || p.isSetting)
-	return p.isGuarded || (changes || isLent) && p.pending > 0 || p.isHolding && !e.waiting[0].holds
+	return p.isGuarded || (changes || getsReserve) && p.pending > 0 || p.isHolding && !e.waiting[0].holds
 }
 
 // guard puts the call of an operator between two that set access rules, if there are some. davd is killed unless the second

@@ -26,13 +26,13 @@ const (
 
 // A budget is what memory a davd may have, and has by now.
 type budget struct {
-	allowed   allowance // over a folder zero until that is loaded, and also later if davd is full then
-	hasBodies bool      // bodies are in memory, so that they can be held in place of the reserve
-	isLent    bool      // davd has the reserve, until the batch that is under way is answered
-	isHolding bool      // it is sent a body to hold, and nothing else
-	held      *uint64   // the number of the body that is held; nil: none
-	dropping  *call     // drops it in the batch that is under way; nil: nothing does
-	isReaped  bool      // the number of davd may be that of another process
+	allowed    allowance // over a folder zero until that is loaded, and also later if davd is full then
+	hasBodies  bool      // bodies are in memory, so that they can be held in place of the reserve
+	hasReserve bool      // davd has the reserve, until the batch that is under way is answered
+	isHolding  bool      // it is sent a body to hold, and nothing else
+	held       *uint64   // the number of the body that is held; nil: none
+	dropping   *call     // drops it in the batch that is under way; nil: nothing does
+	isReaped   bool      // the number of davd may be that of another process
 }
 
 // A shortage finds out whether davd has little memory left, once that is needed.
@@ -56,11 +56,11 @@ func (s *shortage) isFor(c *call) bool {
 	return s.is
 }
 
-// lend gives davd the reserve for a batch, and what it holds in place of it. Nothing else may be under way. It is called with
+// giveReserve gives davd the reserve for a batch, and what it holds in place of it. Nothing else may be under way. It is called with
 // e.mu held.
-func (p *process) lend(b *batch) {
+func (p *process) giveReserve(b *batch) {
 	if p.setLimit(p.allowed.most()) == nil { // Otherwise davd has what it had before.
-		p.isLent, p.isGuarded = true, true
+		p.hasReserve, p.isGuarded = true, true
 	}
 	if p.held != nil {
 		p.dropping = p.holding(frame.DropBody{Number: *p.held})
@@ -71,10 +71,10 @@ func (p *process) lend(b *batch) {
 // takeBack lowers the limit of davd again, if it has the reserve. It reports whether more than half of the reserve stays in
 // use. It is called with e.mu held, when a batch is answered.
 func (p *process) takeBack() (isUsed bool, err error) {
-	if !p.isLent {
+	if !p.hasReserve {
 		return false, nil
 	}
-	p.isLent = false
+	p.hasReserve = false
 	if p.dropping != nil && p.dropping.err == nil && expectDone(p.dropping.replies[0]) == nil {
 		p.held = nil // Otherwise it is dropped once more.
 	}
